@@ -166,8 +166,8 @@ fn is_settled<R: Wait>(rt: &R, alloc: Global, play: Play) -> Result<bool, Settin
     settled
 }
 
-/// The calls of two callers, those of a listener that is moved and lags, and calls as dice have them at mounts that fall back to
-/// one another are answered under locks as by a core; then all is one history.
+/// Under locks, these calls are answered as by a core: those of two callers, those of a listener that is moved and lags, and
+/// random calls at mounts that fall back to one another. Then all is one history.
 #[test]
 fn locks_of_two_mounts(rt: HostRuntime) {
     let alloc = rt.alloc();

@@ -1,12 +1,12 @@
-//! Two mounts whose parts are kept apart, each in a book of its own, as under locks of their own, and the book of the control,
-//! which is lent both for each event that is not one mount's. The replies are those of a core, and all passes settle.
+//! Two mounts whose parts are kept apart, each in a book of its own, as under locks of their own. The book of the control
+//! is lent both for each event that is not one mount's. The replies are those of a core, and all passes settle.
 
 ghost use Rattle.radio_access.specs.Lists.{no_lists};
 ghost use Rattle.radio_parts_station.specs.World.{opening};
 ghost use Rattle.std.specs.Prelude.{◌≡◌, ◌^◌};
 
 use radio_access::Lists;
-use radio_book::{Book, Kept, MountBook, Origin, Own, PASSES, Pass, Receipt};
+use radio_book::{Book, Kept, MountBook, Origin, Own, PASSES, Pass};
 use radio_core::Core;
 use radio_events::{Event, Reply};
 use radio_hall::settle_books;
@@ -31,8 +31,8 @@ const SCATTERED: u64 = 2000;
 pub enum Play {
     /// Two callers make a hundred calls each, at a mount of their own.
     TwoCallers,
-    /// A listener moves from one mount to the other, where a block that is too long for the queue finishes it, right before a
-    /// clock is told.
+    /// A listener moves from one mount to the other. A block that is too long for the queue finishes it there, right before a
+    /// `Clock` event.
     Moved,
     /// Calls as dice have them, at four mounts.
     Scattered,
@@ -81,14 +81,14 @@ struct Books<'a, H: Origin> {
 }
 
 impl<H: Origin> Books<'_, H> {
-    /// The receipt of the event, by the first mount's part that can, else by the control.
-    fn apply(&mut self, event: Event) -> Result<Receipt, OutOfMemory> {
+    /// The reply to the event, by the first mount's part that can, else by the control.
+    fn apply(&mut self, event: Event) -> Result<Reply, OutOfMemory> {
         let mut event = event;
         for book in self.mounts.iter_mut() {
             match book.apply(self.pass, event)? {
-                Own::Made(receipt) => {
+                Own::Made(reply) => {
                     self.own = self.own.saturating_add(1);
-                    return Ok(receipt);
+                    return Ok(reply);
                 }
                 Own::Elsewhere(same) => event = same,
             }
@@ -100,11 +100,11 @@ impl<H: Origin> Books<'_, H> {
     /// Makes the call; the reply is counted, if it is as was wanted.
     fn call_books(&mut self, event: Event, want: &Reply) -> Option<u64> {
         match self.apply(event) {
-            Ok(receipt) => {
-                if is_same_reply(receipt.reply(), want) {
+            Ok(reply) => {
+                if is_same_reply(&reply, want) {
                     self.alike = self.alike.saturating_add(1);
                 }
-                drop(receipt);
+                drop(reply);
                 Some(number_given(want))
             }
             Err(_) => None,
@@ -137,7 +137,7 @@ fn call_each<C: Callee>(callee: &mut C, events: Vec<Event>) -> bool {
     all
 }
 
-/// Two sources, a listener and an admin arrive, the listener hears `/a` and is moved to `/b`, where it is finished.
+/// Two sources, a listener and an admin arrive. The listener hears `/a`, is moved to `/b`, and is finished there.
 fn moved_events(alloc: Global) -> Result<Vec<Event>, OutOfMemory> {
     let mut events = Vec::new(alloc);
     'arrivals: for _ in 0..4 {

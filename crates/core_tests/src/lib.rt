@@ -4,7 +4,7 @@
 //!
 //! - `events`: events and replies of the core, in tables.
 //! - `scripts`: lists of deliveries, among them large ones.
-//! - `listeners`: who sits where and has heard how far, through the calls of `radio_parts_table`.
+//! - `listeners`: where each listener sits and how far it has read, through the calls of `radio_parts_table`.
 //! - `mounts`: sessions in the parts of the mounts, through the calls of `radio_parts_table`.
 //! - `own_steps`: draws, blocks and titles by a mount's part alone.
 #![tactic(auto)]

@@ -12,7 +12,7 @@ use std::alloc::{AllocGlobal, Global};
 /// How many come, half of them to each mount: the tree of a mount has several levels.
 const MANY: u64 = 40;
 
-/// Where the listener of this number begins, in bytes.
+/// The place at which the listener of this number begins, in bytes.
 const START: u64 = 100;
 
 /// A listener came at this moment or before.
@@ -31,7 +31,7 @@ impl SeatTest for CameBy {
     }
 }
 
-/// The listener of this number comes to the mount, at the moment of its number.
+/// The listener of this number sits down at the mount, at the moment of its number.
 fn come(
     alloc: Global,
     listeners: &mut Listeners,
@@ -57,7 +57,7 @@ fn come(
     }
 }
 
-/// Listeners of even numbers come to the one mount, and those of odd numbers to the other.
+/// Listeners of even numbers sit down at the one mount, and those of odd numbers at the other.
 fn all_come(
     alloc: Global,
     listeners: &mut Listeners,
@@ -79,27 +79,27 @@ fn has_read(listeners: &Listeners, id: u64, session: u64, place: u64) -> bool {
     }
 }
 
-/// Who lags loses its seat, and one who has read more keeps it.
+/// A listener that lags loses its seat, and one that has read more keeps it.
 fn laggards_end(listeners: &mut Listeners, even: &MountName) -> bool {
     listeners.advance(6, Place::new(5_000));
     listeners.end_lagging(even, 5_100, 1_000);
     listeners.count(even) == 1 && has_read(listeners, 6, 1, 5_000)
 }
 
-/// A session that begins leaves each where it is.
+/// A session that begins leaves each listener at its place.
 fn session_begins(listeners: &mut Listeners, odd: &MountName) -> bool {
     listeners.give_session(odd, 9);
     has_read(listeners, 7, 9, 700) && has_read(listeners, 39, 9, 3_900)
 }
 
-/// Those end who have come by then, at one mount and then everywhere.
+/// The listeners that have come by then end, at one mount and then everywhere.
 fn tests_end(listeners: &mut Listeners, even: &MountName, odd: &MountName) -> bool {
     let ended = listeners.finish_at_if(odd, &CameBy { moment: 20 }, Rule::Killed);
     listeners.finish_if(&CameBy { moment: 30 }, Rule::TimeOver);
     ended == 10 && listeners.count(even) == 0 && listeners.count(odd) == 5
 }
 
-/// Each leaves, and nobody is left.
+/// Each listener leaves, and none is left.
 fn all_leave(listeners: &mut Listeners, even: &MountName, odd: &MountName) -> bool {
     listeners.end(31, Rule::Killed);
     for id in 0..MANY {

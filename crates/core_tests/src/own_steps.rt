@@ -10,7 +10,7 @@ use radio_seats_rows::OutOfMemory;
 use radio_values::{MountName, Shown, Title};
 use std::alloc::{AllocGlobal, Global};
 
-/// So many bytes of a stream are kept, and nobody stays attached who is further behind.
+/// Only so many bytes of a stream are kept, and no listener that is further behind stays attached.
 const QUEUE: u64 = 4;
 
 /// The source that feeds the mount.

@@ -1,4 +1,4 @@
-//! A lock that is held while a listener of another mount draws, or a client asks to hear that mount.
+//! A lock that is held while a listener of another mount draws, or a client asks to listen to that mount.
 
 use crate::moving::{LISTENER, asks};
 use radio_book::{Kept, Origin, OutOfMemory, Pass};
@@ -68,7 +68,7 @@ impl<H: Origin> Lockable for Hall<Kept, H> {
 pub enum Meanwhile {
     /// The listener draws.
     Draws,
-    /// The next client asks to hear `/b`.
+    /// The next client asks to listen to `/b`.
     Hears,
 }
 
@@ -131,7 +131,7 @@ where
     frozen.has_waited.load(Ordering::SeqCst)
 }
 
-/// The listener of `/b` draws once, so that its caller knows where it is; then that is done while the lock is held.
+/// The listener of `/b` draws once, so that its caller knows its mount. Then that is done while the lock is held.
 pub fn is_answered<H: Origin + Send + Sync, R: Threads + Wait + Clock + Sync>(
     rt: &R,
     alloc: Global,

@@ -48,7 +48,7 @@ impl<'a, R: Wait, H: Origin> Callee for PassCaller<'a, R, H> {
     }
 }
 
-/// A caller of a hall, whom a worker asks at a station: a name with one lifetime.
+/// A caller of a hall, which a worker asks at a station: a name with one lifetime.
 #[derive(Drop)]
 pub struct HallCaller<'a, R: Wait, H: Origin> {
     caller: Caller<'a, R, Hall<Kept, H>>,
@@ -89,15 +89,15 @@ pub enum Visit {
     TwoCallers,
     /// The same, and only one of the passes is given to be settled.
     LeftOut,
-    /// A pass is taken, which nobody uses.
+    /// A pass is taken, and no caller uses it.
     Unused,
-    /// A source is served, another caller sets a title, and a listener hears it.
+    /// A source is served, another caller sets a title, and a listener gets it.
     Titling,
     /// A source and a listener are served through a gate that knocks.
     Knocking,
     /// Connections that are slow or fail are served.
     Row(KeptRow),
-    /// Workers in threads of their own serve all who come.
+    /// Workers in threads of their own serve all connections that come.
     Rush(Rush),
     /// Several callers meet.
     Together(Together),
@@ -126,8 +126,8 @@ impl Visit {
         }
     }
 
-    /// Whether it leaves that history. A title that is heard has two arrivals, what the two asked
-    /// for, a block, a title, and a draw.
+    /// Returns whether the visit leaves that history. A title that a listener gets has two arrivals, their two
+    /// requests, a block, a title, and a draw.
     fn leaves(self, alloc: Global, history: &[Entry]) -> bool {
         match self {
             Visit::TwoCallers => is_of_two(alloc, history),

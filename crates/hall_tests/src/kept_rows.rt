@@ -1,5 +1,5 @@
-//! Failing and slow connections over a hall that stores its entries: whose connection is over has left, in the history
-//! too, and all passes settle, also where a call was refused.
+//! Failing and slow connections over a hall that stores its entries. A client whose connection is over has left, in
+//! the history too. All passes settle, also if a call was refused.
 
 use crate::halls::{HallCaller, Visit, is_well_visited};
 use radio_book::{Entry, Kept, Origin, Pass};
@@ -55,7 +55,7 @@ impl Row {
 }
 
 impl KeptRow {
-    /// Whether those who have left in the history are those who should have.
+    /// Returns whether the clients that have left in the history are those that should have.
     pub fn leaves(self, history: &[Entry]) -> bool {
         match self.left {
             Some(ids) => have_left(history, ids),
@@ -64,7 +64,7 @@ impl KeptRow {
     }
 }
 
-/// Who has left by an event.
+/// Returns the client that leaves by an event.
 fn leaver(event: &Event) -> Option<u64> {
     match event {
         Event::Leave { id } => Some(*id),
@@ -72,7 +72,7 @@ fn leaver(event: &Event) -> Option<u64> {
     }
 }
 
-/// Whether those who have left are these, in this order.
+/// Returns whether the clients that have left are these, in this order.
 fn have_left(history: &[Entry], ids: &[u64]) -> bool {
     let mut count = 0;
     for entry in history {
@@ -100,10 +100,10 @@ pub fn is_row_played<H: Origin, R: Wait>(
     }
 }
 
-/// A caller of a hall who is refused memory at one call.
+/// A caller of a hall that is refused memory at one call.
 type RefusedCaller<'a, R, H> = Refusing<HallCaller<'a, R, H>>;
 
-/// Whether a row is played by a worker who asks this caller, whose pass is added.
+/// Returns whether a row is played by a worker that asks this caller, whose pass is added.
 fn is_played_by<H: Origin, R: Wait>(
     alloc: Global,
     caller: HallCaller<'_, R, H>,
@@ -157,7 +157,7 @@ fn have_left_at_each_call<R: AllocGlobal + Threads + Wait + Clock + Sync>(
     true
 }
 
-/// Whether the passes settle where the worker was refused memory at that call.
+/// Returns whether the passes settle if the worker was refused memory at that call.
 fn settles_refused<R: AllocGlobal + Threads + Wait + Clock + Sync>(rt: &R, call: u64) -> bool {
     let kept = KeptRow {
         row: Row::Refused(call),
@@ -174,7 +174,7 @@ fn who_fails_has_left_the_station(rt: HostRuntime) {
     assert!(rt; have_left_at_each_call(&rt, BEHIND_A_SOURCE, Failure::Fault, &[1, 2]));
 }
 
-/// It stays while it stalls, and has left where it has stalled, lags, or closes while something is pending.
+/// A slow client stays while it stalls. It has left if it has stalled, lags, or closes while something is pending.
 // rule: Lingering
 #[test]
 fn who_is_slow_has_left_the_station(rt: HostRuntime) {
@@ -184,7 +184,7 @@ fn who_is_slow_has_left_the_station(rt: HostRuntime) {
     assert!(rt; are_kept(&rt, "", CLOSES_WHILE_OWED, &[2]));
 }
 
-/// The passes settle where the worker was refused memory, at each call.
+/// The passes settle if the worker was refused memory, at each call.
 // rule: Refused memory; Reserved ends
 #[test]
 fn a_refused_call_settles(rt: HostRuntime) {

@@ -43,7 +43,7 @@ pub enum Together {
     ScatteredWithFallbacks,
     /// The lock of `/a` is held while a listener of `/b` draws.
     FreezesMount,
-    /// The lock of `/a` is held while a client asks to hear `/b`.
+    /// The lock of `/a` is held while a client asks to listen to `/b`.
     FreezesBesideWalk,
     /// The control's lock is held while a listener of `/b` draws.
     FreezesControl,
@@ -54,7 +54,7 @@ pub enum Together {
 }
 
 impl Together {
-    /// How many passes there are: one of who comes first, and one for each thread or caller after that.
+    /// How many passes there are: one of the first caller, and one for each thread or caller after that.
     fn passes(self) -> u32 {
         match self {
             Together::Moves | Together::Scattered | Together::ScatteredWithFallbacks => 4,
@@ -114,7 +114,7 @@ pub fn asks<S: SharedServer, R: Wait>(
     }
 }
 
-/// The number of one who comes now.
+/// Returns the number of a client that arrives now.
 fn comes<S: SharedServer, R: Wait>(rt: &R, server: &S, pass: &mut S::Pass) -> Option<u64> {
     match server.apply(rt, pass, arrival()) {
         Ok(reply) => {

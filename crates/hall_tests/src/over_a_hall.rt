@@ -1,4 +1,4 @@
-//! A worker over a hall: another caller who sets a title, and a gate that asks for the lock.
+//! A worker over a hall: another caller that sets a title, and a gate that asks for the lock.
 
 use crate::halls::{HallCaller, PassCaller, Visit, is_well_visited};
 use radio_book::{Kept, Origin, Pass};
@@ -50,7 +50,7 @@ fn adds_pass<H: Origin, R: Wait>(
 /// A source is served.
 const SERVED: &[Step] = &[Step::Comes(SOURCE, 0), Step::Turns(1, 1, 2)];
 
-/// A listener comes then, and hears the title.
+/// A listener comes then, and gets the title.
 const HEARS_NIGHT: &[Step] = &[
     Step::Comes(TITLED, 2),
     Step::Turns(3, 1, 1),
@@ -74,7 +74,7 @@ fn is_heard<H: Origin, R: Wait>(
     adds_pass(station, passes) && is_heard
 }
 
-/// The same with a pass of another caller, who sets the title; it is added too.
+/// The same with a pass of another caller, which sets the title. That pass is added too.
 pub fn is_title_heard<H: Origin, R: Wait>(
     rt: &R,
     alloc: Global,
@@ -171,7 +171,7 @@ pub fn is_lock_free<H: Origin, R: Wait>(
     adds_pass(station, passes) && is_free
 }
 
-/// A lock that is held is found without waiting for it, so this ends whoever holds it.
+/// The test looks for a held lock without waiting for it, so it ends whichever thread holds the lock.
 // rule: Writes outside the lock
 // only tested: Writes outside the lock: all of it
 #[test]

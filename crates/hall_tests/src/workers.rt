@@ -1,4 +1,4 @@
-//! Workers in threads of their own over one hall, who take lines in memory from an intake.
+//! Workers in threads of their own over one hall. They take lines in memory from an intake.
 
 mod seats;
 
@@ -59,10 +59,10 @@ impl<'a, R: Clock> Gate for HoldsFirst<'a, R> {
     }
 }
 
-/// Who comes, and how they are served.
+/// The connections that come, and how they are served.
 #[derive(Clone, Copy)]
 pub struct Rush {
-    /// What those do who come, one after the other.
+    /// What the connections that come do, one after another.
     comers: &'static [Manners],
     /// Whether a caller feeds a mount before they come.
     is_fed: bool,
@@ -91,7 +91,7 @@ impl Rush {
         true
     }
 
-    /// Whether the history is one of all who came: each of them has arrived, and has left. Who feeds a mount stays.
+    /// Returns whether the history is that of all that came: each client has arrived, and has left. A source stays.
     pub fn leaves(self, history: &[Entry]) -> bool {
         let comers = self.comers.len().saturating_mul(self.times as usize);
         count(history, Wanted::Arrival) == comers.saturating_add(self.is_fed as usize)
@@ -121,9 +121,9 @@ fn put_all<R: Wait>(
 /// What is looked for in a history.
 #[derive(Clone, Copy)]
 enum Wanted {
-    /// Somebody was let in.
+    /// A client was admitted.
     Arrival,
-    /// Somebody has left.
+    /// A client has left.
     Leaving,
 }
 
@@ -176,7 +176,7 @@ fn is_fed<H: Origin, R: Wait>(
     passes.push(pass).is_ok() && is_fed == Ok(true)
 }
 
-/// Whether all who come are taken and served, each worker with a pass that is added, while the first write is held.
+/// Returns whether all that come are taken and served, each worker with a pass that is added, while the first write is held.
 pub fn are_served<H: Origin + Send + Sync, R: Threads + Wait + Clock + Sync>(
     rt: &R,
     alloc: Global,
@@ -193,7 +193,8 @@ pub fn are_served<H: Origin + Send + Sync, R: Threads + Wait + Clock + Sync>(
     }
 }
 
-/// Whether there are seats for the workers, who serve all that come through this intake, and whose passes are added then.
+/// Returns whether there are seats for the workers. They serve all that come through this intake, and their passes are added
+/// then.
 fn is_staffed<H: Origin + Send + Sync, R: Threads + Wait + Clock + Sync>(
     rt: &R,
     alloc: Global,
@@ -270,7 +271,7 @@ fn work<H: Origin + Send + Sync, R: Threads + Wait + Clock + Sync>(
     gate.has_seen_others.load(Ordering::SeqCst)
 }
 
-/// One who asks for what is not there, and closes then.
+/// A client that asks for a mount that does not exist, and then closes.
 const DENIED: Manners = Manners {
     gives: &[b"GET /none HTTP/1.0\r\n\r\n"],
     closes_at: 1,
@@ -301,7 +302,7 @@ fn two_served_at_once(rt: HostRuntime) {
     assert!(rt; is_well_visited(&rt, "", Visit::Rush(TWO)));
 }
 
-/// The same where the held write fails then.
+/// The same, and the held write fails then.
 #[test]
 fn a_held_listener_that_fails_holds_nobody(rt: HostRuntime) {
     let rush = Rush {
@@ -331,7 +332,7 @@ fn a_held_write_holds_nobody(rt: HostRuntime) {
     assert!(rt; is_well_visited(&rt, "", Visit::Rush(SIX)));
 }
 
-/// The same where the writes fail; who was cut off has left.
+/// The same, and the writes fail. A client that was cut off has left.
 // rule: Writes outside the lock
 #[test]
 fn a_held_write_that_fails_holds_nobody(rt: HostRuntime) {
@@ -342,7 +343,7 @@ fn a_held_write_that_fails_holds_nobody(rt: HostRuntime) {
     assert!(rt; is_well_visited(&rt, "", Visit::Rush(rush)));
 }
 
-/// Four workers serve sources, listeners and others, who all leave at the end; their passes settle.
+/// Four workers serve sources, listeners and others, which all leave at the end. Their passes settle.
 // rule: Settled history; Order of calls; End of a worker
 #[test]
 fn four_workers(rt: HostRuntime) {
@@ -357,7 +358,7 @@ fn four_workers(rt: HostRuntime) {
     assert!(rt; is_well_visited(&rt, "", Visit::Rush(rush)));
 }
 
-/// An intake that is full is emptied, and each who came was let in, and has left.
+/// A full intake is emptied. Each client that came was admitted, and has left.
 // rule: Newcomers
 #[test]
 fn a_full_intake(rt: HostRuntime) {

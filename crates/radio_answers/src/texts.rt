@@ -1,4 +1,4 @@
-//! The answers to commands, and to clients who ask what is on air.
+//! The answers to commands, and to clients that ask what is on air.
 
 ghost use Rattle.std.specs.Prelude.{◌≡◌, ◌++◌, OnOk, OnErr};
 ghost use Rattle.radio_heads.specs.Answer.{sized_text, content_type};

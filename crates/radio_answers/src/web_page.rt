@@ -1,8 +1,8 @@
 //! The page of what is on air, which a browser opens at `/`.
 //!
-//! [`page`] is the answer. The page needs nothing from elsewhere: its script asks `/status.json` each five seconds, and shows
-//! the name of the first mount at its top, and for each mount its name, its title, its genre, how many listen, and a player.
-//! It says so if nothing is on air, or the server does not answer. Its icon is a part of its text.
+//! [`page`] is the answer. The page needs nothing from elsewhere. Its script asks `/status.json` every five seconds, and shows
+//! the name of the first mount at the top. For each mount it shows the name, the title, the genre, the number of listeners, and a
+//! player. It says so if nothing is on air, or the server does not answer. Its icon is a part of its text.
 //!
 //! `tests/live/try_page` opens it in a browser.
 ghost use Rattle.std.specs.Prelude.{◌≡◌, ℕ, List, Option};
@@ -11,9 +11,9 @@ ghost use Rattle.radio_answers.specs.Page.{page_answer};
 
 use radio_heads::{FieldValue, WebAnswer};
 
-/// What a browser allows the page (Content Security Policy Level 3): its one script and its one style, by the SHA-256 of
-/// their texts, the icon in its text, and what this server answers to its script and its players. So a text of a stream, whatever it holds, runs
-/// nothing and fetches nothing.
+/// What a browser allows the page (Content Security Policy Level 3). These are its one script and its one style, by the SHA-256
+/// of their texts, the icon in its text, and this server's answers to its script and its players. So a text of a stream, whatever
+/// it holds, runs nothing and fetches nothing.
 pub const POLICY: &str =
     r"default-src 'none'; script-src 'sha256-jzT/HkmIlWhA180bcabzXLk9iBI31SJctbC+ZLxbpIk='; style-src 'sha256-p8r0kjk/CTmiIuOmXXviRO1xt050aEmIax5R+aVXv0A='; img-src data:; connect-src 'self'; media-src 'self'; base-uri 'none'; form-action 'none'; frame-ancestors 'none'";
 

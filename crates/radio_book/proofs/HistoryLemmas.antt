@@ -22,7 +22,6 @@ use Rattle.radio_book.specs.ControlLists.{entries_in, AreWantedOver, AreWantedTh
 use Rattle.radio_book.specs.ControlLists.CanBe.{opens, stays, steps}
 use Rattle.radio_book.specs.LentParts.{AreBack, AreLent, ControlState, IsBack, IsControlAsBefore, IsControlStep, IsLentOrStays, IsRefused}
 use Rattle.radio_book.specs.MountBooks.{with_moment, with_mount_part, AreCuts, BookOfMount}
-use Rattle.radio_book.specs.Receipts.{ReceiptOf}
 
 exchanged_common : (part there : MountPart) (before after : World) → IsLentTo part there before after → common_of after ≡ common_of before
 exchanged_common part there before after is = ap (λ (station : StationState). common_of (record after { station = station })) is.station
@@ -179,14 +178,14 @@ module _ (keeps : Bool) (opening : World) where
       let wants : AreWantedThere opening (names mounts) = record { whole = whole; is = is; reached = refl; are = are } in wants)
 
   -- the reply is that of a control that its entries have made
-  pub legal_reply : (lines : List ControlLine) (books back : List BookOfMount) (before after : World) (event : Event) (result : Result ReceiptOf AllocError)
-      → IfOk result (λ receipt. IsControlStep books before event receipt.reply back after)
-      → ∥ IsMadeByEntries keeps opening lines before ∥₁ → IfOk result (λ receipt. ∥ IsControlReply opening event receipt.reply ∥₁)
+  pub legal_reply : (lines : List ControlLine) (books back : List BookOfMount) (before after : World) (event : Event) (result : Result Reply AllocError)
+      → IfOk result (λ reply. IsControlStep books before event reply back after)
+      → ∥ IsMadeByEntries keeps opening lines before ∥₁ → IfOk result (λ reply. ∥ IsControlReply opening event reply ∥₁)
   legal_reply lines books back before after event (Err refused) step by_entries = tt
-  legal_reply lines books back before after event (Ok receipt) step by_entries =
+  legal_reply lines books back before after event (Ok reply) step by_entries =
       ∥∥₁_map by_entries (λ (t : IsMadeByEntries keeps opening lines before).
       let lent : IsControlLent opening step.whole = record { entries = t.entries; control = before; common = t.common; comes = t.comes; books = books; lent = step.lent; reached = step.reached; lends = step.lends } in
-      let is : IsControlReply opening event receipt.reply = record { whole = step.whole; is = lent; leaves = step.leaves; replied = step.replied } in is)
+      let is : IsControlReply opening event reply = record { whole = step.whole; is = lent; leaves = step.leaves; replied = step.replied } in is)
 
   -- the listener was there, as a control has it that its entries have made
   pub legal_last : (lines : List ControlLine) (control : World) (id : ℕ) (mount : Option (List ℕ)) → mount ≡ last_mount_of control.seats id

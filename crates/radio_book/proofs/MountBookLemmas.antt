@@ -2,7 +2,6 @@
 use Rattle.std.proofs.Common.{◌≡◌, inl, inr, Bool, List, [], ◌∷◌, ◌++◌, Result, Ok, Err, IfOk, OnErr, refl, ap, ◌∙◌}
 use Rattle.std.specs.Prelude.{map}
 use Rattle.std.specs.declared.alloc.AllocError.{AllocError}
-use Rattle.radio_book.specs.Receipts.{ReceiptOf}
 use Rattle.radio_chronicle.specs.declared.line.ControlLine.{ControlLine}
 use Rattle.radio_parts_station.specs.World.{World}
 use Rattle.radio_events.specs.declared.event.Event.{Event}
@@ -44,10 +43,10 @@ refused_same books back before after (inl is) = ap (map mount_and_list) is.0
 refused_same books back before after (inr is) =
     all_back_same is.lent back is.whole after is.takes_back ∙ all_lent_same is.reached books is.lent before is.whole is.lends
 
-pub same_so : (books back : List BookOfMount) (before after : World) (event : Event) (result : Result ReceiptOf AllocError)
-    → IfOk result (λ receipt. IsControlStep books before event receipt.reply back after) → OnErr result (IsRefused books before back after)
+pub same_so : (books back : List BookOfMount) (before after : World) (event : Event) (result : Result Reply AllocError)
+    → IfOk result (λ reply. IsControlStep books before event reply back after) → OnErr result (IsRefused books before back after)
     → map mount_and_list back ≡ map mount_and_list books
-same_so books back before after event (Ok receipt) step err = stepped_same books back before after event receipt.reply step
+same_so books back before after event (Ok reply) step err = stepped_same books back before after event reply step
 same_so books back before after event (Err refused) step err = refused_same books back before after err
 
 -- nothing is left to be lent, or taken back

@@ -1,5 +1,5 @@
 -- What a part has done by itself, as its book's: it replied, or it is not here.
-use Rattle.std.proofs.Common.{◌≡◌, ℕ, Bool, false, Option, None, Some, Result, Ok, Err, IfOk, OnOk, refl, ap, sym, subst}
+use Rattle.std.proofs.Common.{◌≡◌, ℕ, List, Option, Result, Ok, Err, IfOk, OnOk, refl, ap, sym, subst, ◌∙◌}
 use Rattle.std.specs.declared.alloc.AllocError.{AllocError}
 use Rattle.radio_events.specs.declared.event.Event.{Event}
 use Rattle.radio_events.specs.declared.reply.Reply.{Reply}
@@ -9,8 +9,8 @@ use Rattle.radio_parts_mount.specs.declared.step.PartAnswer.TheVariants.{Replied
 use Rattle.radio_chronicle.specs.OwnSteps.{answered_here, once, part_here, CanDrawHere, IsKeptUnlessReplied, IsNoPartsOwn}
 use Rattle.radio_chronicle.specs.Stamps.{stamp}
 use Rattle.radio_chronicle.specs.declared.own_steps.Twice.{Twice}
-use Rattle.radio_chronicle.specs.declared.stamp.Stamp.{Stamp}
-use Rattle.radio_book.specs.MountBooks.{once_in, own_in, with_mount_part, BookOfMount, CanOwn, IsDone, IsInList, IsNotHere, IsNowhere, IsOf, IsOwnStep, IsReplyHere}
+use Rattle.radio_book.specs.MountBooks.{noted_own, once_in, own_in, with_mount_part, BookOfMount, CanOwn, IsDone, IsNotedIn, IsNotHere, IsOwnStep}
+use Rattle.radio_book.specs.Receipts.{ReceiptOf}
 use Rattle.radio_book.specs.declared.mount_book.Own.{Own}
 
 -- the answer of the part of this book, which becomes that
@@ -26,11 +26,11 @@ module _ (book : BookOfMount) (later : Option MountPart) (event : Event) where
   not_here : (other : Event) → IsAnswerOf book later event (Ok (Elsewhere other)) → IsNotHere book event (with_mount_part later book)
   not_here other is = record { elsewhere = (other, sym is.answer); unchanged = ap (λ (part : Option MountPart). with_mount_part part book) is.kept }
 
-  done_so : (place : Stamp) (copy : Event) (answered : Result PartAnswer AllocError) → IsAnswerOf book later event answered
-      → IfOk (own_in place copy answered) (λ own. IsDone book event own (with_mount_part later book))
-  done_so place copy (Ok (Replied reply)) is = replied_here reply is
-  done_so place copy (Ok (Elsewhere other)) is = not_here other is
-  done_so place copy (Err refused) is = tt
+  done_so : (copy : Event) (answered : Result PartAnswer AllocError) → IsAnswerOf book later event answered
+      → IfOk (own_in copy answered) (λ own. IsDone book event own (with_mount_part later book))
+  done_so copy (Ok (Replied reply)) is = replied_here reply is
+  done_so copy (Ok (Elsewhere other)) is = not_here other is
+  done_so copy (Err refused) is = tt
 
   -- what a call ensures of the answer, if the data after a drawing listener's place are not forgotten
   abbrev pub Answers : Result PartAnswer AllocError → Type 0
@@ -42,14 +42,14 @@ module _ (book : BookOfMount) (later : Option MountPart) (event : Event) where
   answer_of answered is can = record { answer = is.0 can; becomes = is.1 can; kept = is.2 can }
 
   -- a book that is seen as this one has done so
-  pub done_here : (now : BookOfMount) (place : Stamp) (copy : Event) (answered : Result PartAnswer AllocError) (result : Result Own AllocError)
-      → book ≡ now → result ≡ own_in place copy answered → Answers answered
+  pub done_here : (now : BookOfMount) (copy : Event) (answered : Result PartAnswer AllocError) (result : Result Own AllocError)
+      → book ≡ now → result ≡ own_in copy answered → Answers answered
       → CanOwn now event → IfOk result (λ own. IsDone now event own (with_mount_part later book))
-  done_here now place copy answered result is comes answers can =
+  done_here now copy answered result is comes answers can =
       let can_it : CanOwn book event = subst (λ (b : BookOfMount). CanOwn b event) (sym is) can in
       subst (λ (b : BookOfMount). IfOk result (λ own. IsDone b event own (with_mount_part later book))) is
       (subst (λ (r : Result Own AllocError). IfOk r (λ own. IsDone book event own (with_mount_part later book))) (sym comes)
-      (done_so place copy answered (answer_of answered answers can_it)))
+      (done_so copy answered (answer_of answered answers can_it)))
 
 -- the event of another is not done here
 pub others_not_here : (book : BookOfMount) (event : Event) → IsNoPartsOwn event → IsNotHere book event book
@@ -68,17 +68,14 @@ pub once_kept : (before after : Option MountPart) (stepped : Result Twice AllocE
 once_kept before after (Ok twice) is = is
 once_kept before after (Err refused) is = tt
 
-pub of_it : (place : Stamp) (event copy : Event) (answered : Result PartAnswer AllocError) → copy ≡ event → IfOk (own_in place copy answered) (λ own. IsOf event own)
-of_it place event copy (Ok (Replied reply)) same = same
-of_it place event copy (Ok (Elsewhere other)) same = same
-of_it place event copy (Err refused) same = tt
-
-pub nowhere : (copy : Event) (answered : Result PartAnswer AllocError) → IfOk (own_in (stamp 0 0) copy answered) (λ own. IsNowhere own)
-nowhere copy (Ok (Replied reply)) = refl
-nowhere copy (Ok (Elsewhere other)) = tt
-nowhere copy (Err refused) = tt
-
-pub in_its_list : (place : Stamp) (copy : Event) (answered : Result PartAnswer AllocError) → IfOk (own_in place copy answered) (λ own. IsInList place.list own)
-in_its_list place copy (Ok (Replied reply)) = refl
-in_its_list place copy (Ok (Elsewhere other)) = tt
-in_its_list place copy (Err refused) = tt
+-- the receipt of a copy of the event, at a place of the book's list
+pub noted_in : (book now : BookOfMount) (serial : ℕ) (event held : Event) (before after : List ReceiptOf) (result : Result Own AllocError)
+    → book ≡ now → held ≡ event → IfOk result (λ own. after ≡ noted_own (stamp book.list serial) held own before)
+    → IfOk result (λ own. IsNotedIn now.list event own before after)
+noted_in book now serial event held before after (Ok own) is same noted = (
+  serial,
+  noted
+      ∙ ap (λ (e : Event). noted_own (stamp book.list serial) e own before) same
+      ∙ ap (λ (b : BookOfMount). noted_own (stamp b.list serial) event own before) is,
+)
+noted_in book now serial event held before after (Err refused) is same noted = tt

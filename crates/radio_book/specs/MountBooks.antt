@@ -5,12 +5,13 @@ use Rattle.radio_chronicle.specs.Stamps.{stamp}
 use Rattle.radio_chronicle.specs.declared.line.ControlLine.{ControlLine}
 use Rattle.radio_chronicle.specs.declared.line.ControlLine.TheVariants.{Cut, Made}
 use Rattle.radio_chronicle.specs.declared.stamp.Stamp.{Stamp}
+use Rattle.radio_events.specs.declared.entry.Entry.{Entry}
 use Rattle.radio_events.specs.declared.event.Event.{Event}
+use Rattle.radio_events.specs.declared.event.Event.TheVariants.{Draw}
 use Rattle.radio_events.specs.declared.reply.Reply.{Reply}
 use Rattle.radio_parts_mount.specs.declared.part.MountPart.{MountPart}
 use Rattle.radio_parts_mount.specs.declared.step.PartAnswer.{PartAnswer}
 use Rattle.radio_parts_mount.specs.declared.step.PartAnswer.TheVariants.{Replied, Elsewhere as GivenBack}
-use Rattle.radio_book.specs.Receipts.{receipt_entry}
 use Rattle.radio_chronicle.specs.OwnSteps.{answered_here, once, part_here, CanDrawHere}
 use Rattle.radio_book.specs.Receipts.{ReceiptOf, receipt_of}
 use Rattle.radio_chronicle.specs.declared.own_steps.Twice.{Twice}
@@ -64,28 +65,33 @@ AreCuts [] [] = Unit {0}
 AreCuts (book ∷ books) (line ∷ lines) = IsCut book.list line × AreCuts books lines
 AreCuts books lines = ⊥
 
--- the lines with a cut for each of these books, and the entry of the receipt behind them
-abbrev pub AreNoted : List ControlLine → List BookOfMount → ReceiptOf → List ControlLine → Type 0
-AreNoted lines lent receipt lines' = (cuts : List ControlLine) × AreCuts lent cuts × (lines' ≡ (lines ++ cuts) ++ Made (receipt_entry receipt) ∷ [])
+-- the lines with a cut for each of these books, and the entry behind them
+abbrev pub AreNoted : List ControlLine → List BookOfMount → Entry → List ControlLine → Type 0
+AreNoted lines lent made lines' = (cuts : List ControlLine) × AreCuts lent cuts × (lines' ≡ (lines ++ cuts) ++ Made made ∷ [])
 
--- it is the event
-abbrev pub IsOf : Event → Own → Type 0
-IsOf event (DoneHere receipt) = receipt.event ≡ event
-IsOf event (Elsewhere same) = same ≡ event
+-- an event that is given back is this one
+abbrev pub GivesBack : Event → Own → Type 0
+GivesBack event (DoneHere reply) = Unit {0}
+GivesBack event (Elsewhere same) = same ≡ event
 
 -- the part has replied so, or it does not reply
 abbrev pub IsDone : BookOfMount → Event → Own → BookOfMount → Type 0
-IsDone before event (DoneHere receipt) after = IsOwnStep before event receipt.reply after
+IsDone before event (DoneHere reply) after = IsOwnStep before event reply after
 IsDone before event (Elsewhere same) after = IsNotHere before event after
 
--- what becomes of a part's answer to the event: the receipt has this place
-abbrev pub own_by : Stamp → Event → PartAnswer → Own
-own_by place event (Replied reply) = DoneHere (receipt_of place event reply)
-own_by place event (GivenBack other) = Elsewhere event
+-- what becomes of a part's answer to the event
+abbrev pub own_by : Event → PartAnswer → Own
+own_by event (Replied reply) = DoneHere reply
+own_by event (GivenBack other) = Elsewhere event
 
-abbrev pub own_in : Stamp → Event → Result PartAnswer AllocError → Result Own AllocError
-own_in place event (Ok answer) = Ok (own_by place event answer)
-own_in place event (Err refused) = Err refused
+abbrev pub own_in : Event → Result PartAnswer AllocError → Result Own AllocError
+own_in event (Ok answer) = Ok (own_by event answer)
+own_in event (Err refused) = Err refused
+
+-- who draws by the event, and how many bytes it has room for
+abbrev pub draw_in : Event → Option (ℕ × ℕ)
+draw_in (Draw id room) = Some (id, room)
+draw_in event = None
 
 abbrev pub once_in : Result Twice AllocError → Result PartAnswer AllocError
 once_in (Ok twice) = Ok (once twice)
@@ -97,20 +103,14 @@ abbrev pub IsReplyHere : BookOfMount → Event → Option Reply → BookOfMount 
 IsReplyHere before event (Some reply) after = IsOwnStep before event reply after
 IsReplyHere before event None after = IsNotHere before event after
 
--- the receipts, with that of the event
-abbrev pub noted_own : Own → List ReceiptOf → List ReceiptOf
-noted_own (DoneHere receipt) receipts = receipts ++ receipt ∷ []
-noted_own (Elsewhere same) receipts = receipts
+-- the receipts, with that of the event at this place if the part has replied
+abbrev pub noted_own : Stamp → Event → Own → List ReceiptOf → List ReceiptOf
+noted_own place event (DoneHere reply) receipts = receipts ++ receipt_of place event reply ∷ []
+noted_own place event (Elsewhere same) receipts = receipts
 
--- the receipt's place is in this list
-abbrev pub IsInList : ℕ → Own → Type 0
-IsInList list (DoneHere receipt) = receipt.stamp.list ≡ list
-IsInList list (Elsewhere same) = Unit {0}
-
--- the receipt has no place
-abbrev pub IsNowhere : Own → Type 0
-IsNowhere (DoneHere receipt) = receipt.stamp ≡ stamp 0 0
-IsNowhere (Elsewhere same) = Unit {0}
+-- they are so at some place of this list
+abbrev pub IsNotedIn : ℕ → Event → Own → List ReceiptOf → List ReceiptOf → Type 0
+IsNotedIn list event own before after = (serial : ℕ) × (after ≡ noted_own (stamp list serial) event own before)
 
 -- how many lines need room before an entry that is lent so many parts, if so many ends are reserved and so many more may be
 abbrev pub lines_for : ℕ → ℕ → ℕ → ℕ

@@ -1,21 +1,21 @@
 //! The control, its list, and for how many ends room is reserved.
 
 ghost use Rattle.std.specs.Prelude.{◌≡◌, ◌+◌, ◌-◌, ◌≤◌, ◌<◌, ◌^◌, ◌∷◌, [], ◌++◌, length, true, false, IsOk, IsSome, IfOk, IfSome, IfNone, OnOk, OnErr, vec_len, vec_capacity};
-ghost use Rattle.radio_events.specs.Events.{EventTakesNoMemory};
+ghost use Rattle.radio_events.specs.Events.{entry, EventTakesNoMemory};
 ghost use Rattle.radio_chronicle.specs.Stamps.{stamp};
 ghost use Rattle.radio_book.specs.ControlLists.{AreWantedOver, AreWantedThere, IsMadeByEntries, IsOpening};
 ghost use Rattle.radio_book.specs.LentParts.{IsControlAsBefore, IsControlStep, IsRefused};
 ghost use Rattle.radio_book.specs.MountBooks.{lines_for, AreNoted};
 ghost use Rattle.radio_book.specs.Newcomers.{is_arrival, room_for};
+ghost use Rattle.radio_book.specs.Receipts.{receipt_of};
 
 use crate::holdings::Holdings;
 use crate::lending::{apart, lend_each, note_cuts, step_over, step3_over, take_back_each};
-use crate::receipt::NOWHERE;
 use crate::reserved_ends::ReservedEnds;
 use crate::{Chronicle, Entry, MountBook, Origin, OutOfMemory, Receipt, Stamp};
-use radio_chronicle::{ControlLine, Copies, Notes, thrice};
+use radio_chronicle::{ControlLine, Notes, twice};
 use radio_core::{Control, ListedPart};
-use radio_events::Event;
+use radio_events::{Event, Reply};
 use radio_values::MountName;
 use std::alloc::{AllocError, Global};
 use std::marker::PhantomData;
@@ -132,27 +132,14 @@ impl<C: Chronicle, H: Origin> Accounts<C, H> {
         &mut self,
         lent: &mut [MountBook<C>],
         event: Event,
-    ) -> Result<Receipt, OutOfMemory>
+    ) -> Result<Reply, OutOfMemory>
         requires { C.KEEPS ≡ false }
-        ensures event { IfOk result (λ receipt. (receipt.event ≡ event) × (receipt.stamp ≡ stamp 0 0)) }
-        ensures step { IfOk result (λ receipt. IsControlStep lent.old self.old.control event receipt.reply lent.new self.new.control) }
+        ensures step { IfOk result (λ reply. IsControlStep lent.old self.old.control event reply lent.new self.new.control) }
         ensures lines { self.new.lines.items ≡ self.old.lines.items }
         ensures err { OnErr result (IsRefused lent.old self.old.control lent.new self.new.control) }
         ensures frees { EventTakesNoMemory event → IsOk result }
     {
-        match event.again() {
-            Ok(copy) => match step_over(&mut self.control, lent, event) {
-                Ok(reply) => Ok(Receipt::new(NOWHERE, copy, reply)),
-                Err(refused) => {
-                    drop(copy);
-                    Err(refused)
-                }
-            },
-            Err(refused) => {
-                drop(event);
-                Err(refused)
-            }
-        }
+        step_over(&mut self.control, lent, event)
     }
 
     /// One event over the parts that are lent, which is stored. `OutOfMemory` if memory was refused; nothing has changed then.
@@ -161,19 +148,18 @@ impl<C: Chronicle, H: Origin> Accounts<C, H> {
         holdings: &mut Holdings<H>,
         lent: &mut [MountBook<C>],
         event: Event,
-    ) -> Result<Receipt, OutOfMemory>
+    ) -> Result<Reply, OutOfMemory>
         requires { C.KEEPS ≡ true }
-        ensures event { IfOk result (λ receipt. receipt.event ≡ event) }
-        ensures step { IfOk result (λ receipt. IsControlStep lent.old self.old.control event receipt.reply lent.new self.new.control) }
-        ensures place { IfOk result (λ receipt. receipt.stamp ≡ stamp 0 (length self.new.lines.items)) }
-        ensures lines { IfOk result (λ receipt. AreNoted self.old.lines.items lent.new receipt self.new.lines.items) }
-        ensures receipts { IfOk result (λ receipt. holdings.new.receipts.items ≡ holdings.old.receipts.items ++ receipt ∷ []) }
+        ensures step { IfOk result (λ reply. IsControlStep lent.old self.old.control event reply lent.new self.new.control) }
+        ensures lines { IfOk result (λ reply. AreNoted self.old.lines.items lent.new (entry event reply) self.new.lines.items) }
+        ensures receipts { IfOk result (λ reply. holdings.new.receipts.items
+            ≡ holdings.old.receipts.items ++ receipt_of (stamp 0 (length self.new.lines.items)) event reply ∷ []) }
         ensures err { OnErr result (IsRefused lent.old self.old.control lent.new self.new.control) }
         ensures err_lines { OnErr result ((self.new.lines.items ≡ self.old.lines.items) × (holdings.new.receipts.items ≡ holdings.old.receipts.items)) }
         ensures frees { EventTakesNoMemory event → room_for holdings.old.present.items event ≡ 0 → length lent.old ≤ 1 → IsOk result }
     {
         match self.prepare(holdings, lent.len(), &event) {
-            Ok(copies) => self.note_in_room(holdings, lent, event, copies),
+            Ok((noted, held)) => self.note_in_room(holdings, lent, event, noted, held),
             Err(refused) => {
                 drop(event);
                 Err(refused)
@@ -181,15 +167,15 @@ impl<C: Chronicle, H: Origin> Accounts<C, H> {
         }
     }
 
-    /// Makes room for an event that is lent so many parts, and for the ends that are reserved then, and copies of the event.
-    /// `OutOfMemory` if memory was refused.
+    /// Makes room for an event that is lent so many parts, and for the ends that are reserved then, and two copies of the event:
+    /// for the list and for the pass. `OutOfMemory` if memory was refused.
     fn prepare(
         &mut self,
         holdings: &mut Holdings<H>,
         lent: usize,
         event: &Event,
-    ) -> Result<Copies, OutOfMemory>
-        ensures copies { IfOk result (λ copies. (copies.noted ≡ event.now) × (copies.held ≡ event.now) × (copies.returned ≡ event.now)) }
+    ) -> Result<(Event, Event), OutOfMemory>
+        ensures copies { IfOk result (λ copies. (copies.0 ≡ event.now) × (copies.1 ≡ event.now)) }
         ensures some { OnOk result (0 < self.new.ends.reserved + room_for holdings.new.present.items event.now) }
         ensures lines { OnOk result (lines_for self.new.ends.reserved (room_for holdings.new.present.items event.now) lent ≤ self.new.lines.room) }
         ensures most { OnOk result (self.new.lines.room < 2 ^ 64) }
@@ -202,7 +188,7 @@ impl<C: Chronicle, H: Origin> Accounts<C, H> {
         ensures held { (holdings.new.receipts.items ≡ holdings.old.receipts.items) × (holdings.new.present.items ≡ holdings.old.present.items) }
     {
         self.make_room(holdings, lent, event)?;
-        thrice(event)
+        twice(event)
     }
 
     /// Makes room for an event that is lent so many parts, and for the ends that are reserved then. `OutOfMemory` if memory was
@@ -239,32 +225,27 @@ impl<C: Chronicle, H: Origin> Accounts<C, H> {
         holdings: &mut Holdings<H>,
         lent: &mut [MountBook<C>],
         event: Event,
-        copies: Copies,
-    ) -> Result<Receipt, OutOfMemory>
+        noted: Event,
+        held: Event,
+    ) -> Result<Reply, OutOfMemory>
         requires keeps { C.KEEPS ≡ true }
-        requires copies { (copies.noted ≡ event) × (copies.held ≡ event) × (copies.returned ≡ event) }
+        requires copies { (noted ≡ event) × (held ≡ event) }
         requires some { 0 < self.old.ends.reserved + room_for holdings.old.present.items event }
         requires lines { lines_for self.old.ends.reserved (room_for holdings.old.present.items event) (length lent.old) ≤ self.old.lines.room }
         requires most { self.old.lines.room < 2 ^ 64 }
         requires receipts { vec_len holdings.old.receipts + vec_len holdings.old.present + room_for holdings.old.present.items event
             ≤ vec_capacity holdings.old.receipts }
         requires present { is_arrival event ≡ true → vec_len holdings.old.present < vec_capacity holdings.old.present }
-        ensures event { IfOk result (λ receipt. receipt.event ≡ event) }
-        ensures step { IfOk result (λ receipt. IsControlStep lent.old self.old.control event receipt.reply lent.new self.new.control) }
-        ensures place { IfOk result (λ receipt. receipt.stamp ≡ stamp 0 (length self.new.lines.items)) }
-        ensures lines { IfOk result (λ receipt. AreNoted self.old.lines.items lent.new receipt self.new.lines.items) }
-        ensures receipts { IfOk result (λ receipt. holdings.new.receipts.items ≡ holdings.old.receipts.items ++ receipt ∷ []) }
+        ensures step { IfOk result (λ reply. IsControlStep lent.old self.old.control event reply lent.new self.new.control) }
+        ensures lines { IfOk result (λ reply. AreNoted self.old.lines.items lent.new (entry event reply) self.new.lines.items) }
+        ensures receipts { IfOk result (λ reply. holdings.new.receipts.items
+            ≡ holdings.old.receipts.items ++ receipt_of (stamp 0 (length self.new.lines.items)) event reply ∷ []) }
         ensures err { OnErr result (IsControlAsBefore lent.old self.old.control lent.new self.new.control) }
         ensures err_lines { OnErr result ((self.new.lines.items ≡ self.old.lines.items) × (holdings.new.receipts.items ≡ holdings.old.receipts.items)) }
         ensures frees { EventTakesNoMemory event → IsOk result }
     {
         match step3_over(&mut self.control, lent, event) {
             Ok(replies) => {
-                let Copies {
-                    noted,
-                    held,
-                    returned,
-                } = copies;
                 let (first, second, third) = apart(replies);
                 note_cuts(&mut self.lines, lent);
                 self.lines.note(ControlLine::Made(Entry {
@@ -276,10 +257,11 @@ impl<C: Chronicle, H: Origin> Accounts<C, H> {
                     serial: self.lines.len() as u64,
                 };
                 holdings.note(&mut self.ends, Receipt::new(stamp, held, second));
-                Ok(Receipt::new(stamp, returned, third))
+                Ok(third)
             }
             Err(refused) => {
-                drop(copies);
+                drop(noted);
+                drop(held);
                 Err(refused)
             }
         }

@@ -2,22 +2,23 @@
 
 ghost use Rattle.std.specs.Prelude.{◌≡◌, ◌-◌, ◌≤◌, ◌^◌, ◌∷◌, [], ◌++◌, length, map, true, false, Some, IsOk, IfOk, IfSome, IfNone, OnErr};
 ghost use Rattle.radio_parts_station.specs.World.{opening, standing_of};
-ghost use Rattle.radio_events.specs.Events.{EventTakesNoMemory};
+ghost use Rattle.radio_events.specs.Events.{entry, EventTakesNoMemory};
 ghost use Rattle.radio_chronicle.specs.Stamps.{stamp};
 ghost use Rattle.radio_seats_rows.specs.Seats.{last_mount_of};
 ghost use Rattle.radio_book.specs.ControlLists.{mount_fed, AreWantedOver, AreWantedThere, HasNoPass, IsControlReply, IsMadeByEntries, WasThere};
 ghost use Rattle.radio_book.specs.LentParts.{IsControlAsBefore, IsControlStep, IsRefused};
 ghost use Rattle.radio_book.specs.MountBooks.{mount_and_list, AreNoted};
 ghost use Rattle.radio_book.specs.Newcomers.{is_here, leaver_of};
+ghost use Rattle.radio_book.specs.Receipts.{receipt_of};
 ghost use Rattle.radio_book.specs.declared.newcomer.Newcomer.{Newcomer};
 
 use crate::accounts::Accounts;
 use crate::reserved_ends::ReservedEnds;
-use crate::{Chronicle, Kept, MountBook, Origin, OutOfMemory, Pass, Receipt};
+use crate::{Chronicle, Kept, MountBook, Origin, OutOfMemory, Pass};
 use radio_access::Lists;
 use radio_chronicle::ControlLine;
 use radio_core::{Control, ListedPart};
-use radio_events::Event;
+use radio_events::{Event, Reply};
 use radio_parts_mount::MountItem;
 use radio_parts_station::Standing;
 use radio_settings_values::Settings;
@@ -90,8 +91,9 @@ impl<C: Chronicle, H: Origin> Book<C, H> {
         Some(Pass::new(self.alloc, holdings))
     }
 
-    /// Applies one event over the parts that are lent, and returns its receipt. Each part is put in the place of the
-    /// one that the control has, and taken out again. If entries are stored, a cut of each list and the entry are.
+    /// Applies one event over the parts that are lent, and returns the reply. Each part is put in the place of the
+    /// one that the control has, and taken out again. If entries are stored, a cut of each list and the entry are, and
+    /// the pass gains the receipt. If they are not, the event is not copied.
     ///
     /// `OutOfMemory` if memory was refused. The list and the pass are unchanged then, and so are the control and the
     /// parts, except that a listener that had lagged out of a part has lost its seat.
@@ -101,20 +103,19 @@ impl<C: Chronicle, H: Origin> Book<C, H> {
         pass: &mut Pass<C, H>,
         lent: &mut [MountBook<C>],
         event: Event,
-    ) -> Result<Receipt, OutOfMemory>
-        ensures event { IfOk result (λ receipt. receipt.event ≡ event) }
+    ) -> Result<Reply, OutOfMemory>
         // the reply is the control's over what it is lent
-        ensures step { IfOk result (λ receipt. IsControlStep lent.old self.old.control event receipt.reply lent.new self.new.control) }
+        ensures step { IfOk result (λ reply. IsControlStep lent.old self.old.control event reply lent.new self.new.control) }
         // it is that of a control that its entries have made, whatever was called before
-        ensures legal { IfOk result (λ receipt. ∥ IsControlReply H.opening event receipt.reply ∥₁) }
+        ensures legal { IfOk result (λ reply. ∥ IsControlReply H.opening event reply ∥₁) }
         // the same books in the same order
         ensures same { map mount_and_list lent.new ≡ map mount_and_list lent.old }
-        // if entries are stored, the list grows by a cut for each book and the entry, at whose place the receipt is
-        ensures lines { C.KEEPS ≡ true → IfOk result (λ receipt. AreNoted self.old.lines lent.new receipt self.new.lines) }
-        ensures place { C.KEEPS ≡ true → IfOk result (λ receipt. receipt.stamp ≡ stamp 0 (length self.new.lines)) }
-        ensures pass { C.KEEPS ≡ true → IfOk result (λ receipt. pass.new ≡ pass.old ++ receipt ∷ []) }
+        // if entries are stored, the list grows by a cut for each book and the entry
+        ensures lines { C.KEEPS ≡ true → IfOk result (λ reply. AreNoted self.old.lines lent.new (entry event reply) self.new.lines) }
+        // and the pass gains the entry's receipt, which is at the list's end
+        ensures pass { C.KEEPS ≡ true → IfOk result (λ reply. pass.new ≡ pass.old ++ receipt_of (stamp 0 (length self.new.lines)) event reply ∷ []) }
         // if they are not, nothing is noted
-        ensures unkept { C.KEEPS ≡ false → (self.new.lines ≡ self.old.lines) × (pass.new ≡ pass.old) × IfOk result (λ receipt. receipt.stamp ≡ stamp 0 0) }
+        ensures unkept { C.KEEPS ≡ false → (self.new.lines ≡ self.old.lines) × (pass.new ≡ pass.old) }
         ensures err { OnErr result (IsRefused lent.old self.old.control lent.new self.new.control) }
         ensures err_lines { OnErr result ((self.new.lines ≡ self.old.lines) × (pass.new ≡ pass.old)) }
         // the end of a client or relay that this pass let in and has not ended is never refused if it is lent one part

@@ -3,16 +3,14 @@
 ghost use Rattle.std.specs.Prelude.{◌≡◌, ◌+◌, ◌≤◌, ◌<◌, true, false, None, IfOk, IsTrue, OnErr, vec_len, vec_capacity};
 ghost use Rattle.radio_book.specs.Clocks.{IsNotDue};
 ghost use Rattle.radio_book.specs.LentParts.{IsBack, IsLentOrStays};
-ghost use Rattle.radio_book.specs.MountBooks.{noted_own, once_in, own_in, CanOwn, IsCut, IsDone, IsInList, IsNowhere, IsOf, IsReplyHere};
-ghost use Rattle.radio_chronicle.specs.Stamps.{stamp};
+ghost use Rattle.radio_book.specs.MountBooks.{draw_in, noted_own, once_in, own_in, CanOwn, GivesBack, IsCut, IsDone, IsNotedIn, IsReplyHere};
 ghost use Rattle.radio_events.specs.declared.event.Event.TheVariants.{Draw};
 ghost use Rattle.radio_chronicle.specs.OwnSteps.{is_part_event, IsAlike};
 
 use crate::holdings::Holdings;
 use crate::last_blocks::{drop_old, last_block, last_block_of};
-use crate::receipt::NOWHERE;
 use crate::{Chronicle, Origin, OutOfMemory, Pass, Receipt, Stamp};
-use radio_chronicle::{ControlLine, Twice, is_own, items_here, step_here, step_twice_here, twice};
+use radio_chronicle::{ControlLine, Twice, is_own, items_here, step_here, step_twice_here};
 use radio_core::{Control, ListedPart, PartAnswer};
 use radio_events::{Event, Reply};
 use radio_parts_mount::{LAST_MOMENT, due_at};
@@ -24,7 +22,7 @@ use std::marker::{Model, PhantomData};
 #[derive(Drop)]
 pub enum Own {
     /// The mount's part has replied.
-    Made(Receipt),
+    Made(Reply),
     /// The client is not attached to the mount, or the control has the part; nothing has changed.
     Elsewhere(Event),
 }
@@ -118,15 +116,14 @@ impl<C: Chronicle> MountBook<C> {
         pass: &mut Pass<C, H>,
         event: Event,
     ) -> Result<Own, OutOfMemory>
-        // the receipt is of this event, and whom the part does not know gets it back
-        ensures event { IfOk result (λ own. IsOf event own) }
+        // an event to which the part does not reply comes back
+        ensures back { IfOk result (λ own. GivesBack event own) }
         // the reply is the part's own, and the part is as it says then
         ensures done { CanOwn self.old event → IfOk result (λ own. IsDone self.old event own self.new) }
-        // if entries are stored, the receipt's place is in the mount's list, and the pass gains the receipt
-        ensures list { C.KEEPS ≡ true → IfOk result (λ own. IsInList self.old.list own) }
-        ensures pass { C.KEEPS ≡ true → IfOk result (λ own. pass.new ≡ noted_own own pass.old) }
+        // if entries are stored, the pass gains the receipt of a reply, at a place of the mount's list
+        ensures pass { C.KEEPS ≡ true → IfOk result (λ own. IsNotedIn self.old.list event own pass.old pass.new) }
         // if they are not, nothing is noted
-        ensures unkept { C.KEEPS ≡ false → (pass.new ≡ pass.old) × IfOk result (λ own. IsNowhere own) }
+        ensures unkept { C.KEEPS ≡ false → pass.new ≡ pass.old }
         ensures err { CanOwn self.old event → OnErr result (self.new ≡ self.old) }
         ensures err_pass { OnErr result (pass.new ≡ pass.old) }
     {
@@ -137,7 +134,7 @@ impl<C: Chronicle> MountBook<C> {
         }
     }
 
-    /// Draws for this client, which has room for so many bytes, if nothing is stored, as [`MountBook::apply`], but without a receipt.
+    /// Draws for this client, which has room for so many bytes, if nothing is stored, as [`MountBook::apply`], but without an event.
     /// Returns the reply; `None` if the client is not attached to the mount, or the control has the part. `OutOfMemory` if memory
     /// was refused; nothing has changed then.
     // rule: Legal history
@@ -239,30 +236,34 @@ impl<C: Chronicle> MountBook<C> {
 
     /// Does what the event does, if nothing is stored.
     fn answer(&mut self, event: Event) -> Result<Own, OutOfMemory>
-        ensures event { IfOk result (λ own. IsOf event own) }
+        requires { C.KEEPS ≡ false }
+        ensures back { IfOk result (λ own. GivesBack event own) }
         ensures done { CanOwn self.old event → IfOk result (λ own. IsDone self.old event own self.new) }
-        ensures place { IfOk result (λ own. IsNowhere own) }
         ensures err { OnErr result (self.new ≡ self.old) }
     {
-        match event.again() {
-            Ok(copy) => self.answer_copied(event, copy),
-            Err(refused) => {
-                drop(event);
-                Err(refused)
-            }
+        if let Some((id, room)) = draw_in(&event) {
+            drop(event);
+            return self.answer_draw(id, room);
+        }
+        match step_here(self.alloc, &mut self.part, self.moment, self.queue, event) {
+            Ok(PartAnswer::Replied(reply)) => Ok(Own::Made(reply)),
+            Ok(PartAnswer::Elsewhere(same)) => Ok(Own::Elsewhere(same)),
+            Err(refused) => Err(refused),
         }
     }
 
-    /// Does what the event does, of which this is a copy, if nothing is stored.
-    fn answer_copied(&mut self, event: Event, copy: Event) -> Result<Own, OutOfMemory>
-        requires { copy ≡ event }
-        ensures event { IfOk result (λ own. IsOf event own) }
-        ensures done { CanOwn self.old event → IfOk result (λ own. IsDone self.old event own self.new) }
-        ensures place { IfOk result (λ own. IsNowhere own) }
+    /// Does what a draw does, if nothing is stored.
+    fn answer_draw(&mut self, id: u64, room: u32) -> Result<Own, OutOfMemory>
+        requires { C.KEEPS ≡ false }
+        ensures back { IfOk result (λ own. GivesBack (Draw id room) own) }
+        ensures done { CanOwn self.old (Draw id room) → IfOk result (λ own. IsDone self.old (Draw id room) own self.new) }
         ensures err { OnErr result (self.new ≡ self.old) }
     {
-        let answered = step_here(self.alloc, &mut self.part, self.moment, self.queue, event);
-        own_of(answered, copy)
+        match self.draw(id, room) {
+            Ok(Some(reply)) => Ok(Own::Made(reply)),
+            Ok(None) => Ok(Own::Elsewhere(Event::Draw { id, room })),
+            Err(refused) => Err(refused),
+        }
     }
 
     /// Does what the event does, which is stored.
@@ -271,10 +272,9 @@ impl<C: Chronicle> MountBook<C> {
         holdings: &mut Holdings<H>,
         event: Event,
     ) -> Result<Own, OutOfMemory>
-        ensures event { IfOk result (λ own. IsOf event own) }
+        ensures back { IfOk result (λ own. GivesBack event own) }
         ensures done { CanOwn self.old event → IfOk result (λ own. IsDone self.old event own self.new) }
-        ensures list { IfOk result (λ own. IsInList self.old.list own) }
-        ensures receipts { IfOk result (λ own. holdings.new.receipts.items ≡ noted_own own holdings.old.receipts.items) }
+        ensures receipts { IfOk result (λ own. IsNotedIn self.old.list event own holdings.old.receipts.items holdings.new.receipts.items) }
         ensures err { CanOwn self.old event → OnErr result (self.new ≡ self.old) }
         ensures err_receipts { OnErr result (holdings.new.receipts.items ≡ holdings.old.receipts.items) }
     {
@@ -285,8 +285,8 @@ impl<C: Chronicle> MountBook<C> {
             drop(event);
             return Err(refused);
         }
-        match twice(&event) {
-            Ok((held, returned)) => self.note_copied(holdings, event, held, returned),
+        match event.again() {
+            Ok(held) => self.note_copied(holdings, event, held),
             Err(refused) => {
                 drop(event);
                 Err(refused)
@@ -294,21 +294,19 @@ impl<C: Chronicle> MountBook<C> {
         }
     }
 
-    /// Does what the event does, of which these are copies, and which is stored; the pass has room for its receipt.
+    /// Does what the event does, of which `held` is a copy, and which is stored; the pass has room for its receipt.
     fn note_copied<H: Origin>(
         &mut self,
         holdings: &mut Holdings<H>,
         event: Event,
         held: Event,
-        returned: Event,
     ) -> Result<Own, OutOfMemory>
         requires own { is_part_event event ≡ true }
-        requires copies { (held ≡ event) × (returned ≡ event) }
+        requires copy { held ≡ event }
         requires room { vec_len holdings.old.receipts + vec_len holdings.old.present < vec_capacity holdings.old.receipts }
-        ensures event { IfOk result (λ own. IsOf event own) }
+        ensures back { IfOk result (λ own. GivesBack event own) }
         ensures done { CanOwn self.old event → IfOk result (λ own. IsDone self.old event own self.new) }
-        ensures list { IfOk result (λ own. IsInList self.old.list own) }
-        ensures receipts { IfOk result (λ own. holdings.new.receipts.items ≡ noted_own own holdings.old.receipts.items) }
+        ensures receipts { IfOk result (λ own. IsNotedIn self.old.list event own holdings.old.receipts.items holdings.new.receipts.items) }
         ensures err { CanOwn self.old event → OnErr result (self.new ≡ self.old) }
         ensures err_receipts { OnErr result (holdings.new.receipts.items ≡ holdings.old.receipts.items) }
     {
@@ -317,57 +315,56 @@ impl<C: Chronicle> MountBook<C> {
             serial: items_here(&self.part).saturating_add(1),
         };
         let stepped = step_twice_here(self.alloc, &mut self.part, self.moment, self.queue, event);
-        note_own(holdings, stamp, held, returned, stepped)
+        note_own(holdings, stamp, held, stepped)
     }
 }
 
-/// Returns what becomes of a part's answer to the event, if nothing is stored.
-fn own_of(answered: Result<PartAnswer, OutOfMemory>, copy: Event) -> Result<Own, OutOfMemory>
-    ensures { result ≡ own_in (stamp 0 0) copy answered }
+/// Returns who draws by the event, and how many bytes it has room for, if the event is a draw.
+fn draw_in(event: &Event) -> Option<(u64, u32)>
+    ensures { result ≡ draw_in event.now }
 {
-    match answered {
-        Ok(PartAnswer::Replied(reply)) => Ok(Own::Made(Receipt::new(NOWHERE, copy, reply))),
-        Ok(PartAnswer::Elsewhere(event)) => {
-            drop(event);
-            Ok(Own::Elsewhere(copy))
-        }
-        Err(refused) => {
-            drop(copy);
-            Err(refused)
-        }
+    match event {
+        Event::Draw { id, room } => Some((*id, *room)),
+        Event::Arrive { .. }
+        | Event::Source(_)
+        | Event::Push { .. }
+        | Event::SourceEnd { .. }
+        | Event::Title { .. }
+        | Event::Listen(_)
+        | Event::Command(_)
+        | Event::Leave { .. }
+        | Event::RelayUp { .. }
+        | Event::RelayDown { .. }
+        | Event::Clock { .. } => None,
     }
 }
 
-/// Returns what becomes of a part's answer to the event, which is there twice, if it is stored: the pass takes its receipt, for
-/// which there is room.
+/// Returns what becomes of a part's answer to the event, of which `held` is a copy, if it is stored: the pass takes its receipt,
+/// for which there is room.
 fn note_own<H: Origin>(
     holdings: &mut Holdings<H>,
     stamp: Stamp,
     held: Event,
-    returned: Event,
     stepped: Result<Twice, OutOfMemory>,
 ) -> Result<Own, OutOfMemory>
     requires own { is_part_event held ≡ true }
-    requires same { held ≡ returned }
     requires alike { IfOk stepped (λ twice. IsAlike twice) }
     requires room { vec_len holdings.old.receipts + vec_len holdings.old.present < vec_capacity holdings.old.receipts }
-    ensures value { result ≡ own_in stamp returned (once_in stepped) }
-    ensures receipts { IfOk result (λ own. holdings.new.receipts.items ≡ noted_own own holdings.old.receipts.items) }
+    ensures value { result ≡ own_in held (once_in stepped) }
+    ensures receipts { IfOk result (λ own. holdings.new.receipts.items ≡ noted_own stamp held own holdings.old.receipts.items) }
     ensures err { OnErr result (holdings.new.receipts.items ≡ holdings.old.receipts.items) }
 {
     match stepped {
         Ok(Twice::Replied(again, reply)) => {
             holdings.note_own(Receipt::new(stamp, held, again));
-            Ok(Own::Made(Receipt::new(stamp, returned, reply)))
+            Ok(Own::Made(reply))
         }
         Ok(Twice::Elsewhere(event)) => {
             drop(event);
-            drop(held);
-            Ok(Own::Elsewhere(returned))
+            Ok(Own::Elsewhere(held))
         }
         Err(refused) => {
             drop(held);
-            drop(returned);
             Err(refused)
         }
     }

@@ -1,10 +1,14 @@
 //! What a caller of a book has.
 
-ghost use Rattle.std.specs.Prelude.{◌≡◌, []};
-ghost use Rattle.radio_book.specs.Receipts.{has_fed};
+ghost use Rattle.std.specs.Prelude.{◌≡◌, ◌∷◌, [], ◌++◌, List, true, false};
+ghost use Rattle.radio_book.specs.Receipts.{has_fed, last_place, receipt_of, LastIsOf, ReceiptOf};
+ghost use Rattle.radio_chronicle.specs.Stamps.{stamp};
+ghost use Rattle.radio_chronicle.specs.declared.stamp.Stamp.{Stamp as StampOf};
 
 use crate::holdings::Holdings;
-use crate::{Chronicle, Origin, Receipt};
+use crate::receipt::NOWHERE;
+use crate::{Chronicle, Origin, Receipt, Stamp};
+use radio_events::{Event, Reply};
 use std::alloc::Global;
 use std::collections::BTreeMap;
 use std::marker::{Model, PhantomData};
@@ -57,6 +61,24 @@ impl<C: Chronicle, H: Origin> Pass<C, H> {
         self.holdings.receipts.as_slice()
     }
 
+    /// Returns a receipt of the last call through this pass, which was of this event and had this reply: that which the pass has,
+    /// or one of no place if nothing is stored. It takes no memory.
+    // rule: Receipts
+    pub fn receipt(&self, event: Event, reply: Reply) -> Receipt
+        requires last { C.KEEPS ≡ true → LastIsOf self.now event reply }
+        ensures entry { (result.event ≡ event) × (result.reply ≡ reply) }
+        ensures kept { C.KEEPS ≡ true → (front : List ReceiptOf) (place : StampOf) → self.now ≡ front ++ receipt_of place event reply ∷ []
+            → self.now ≡ front ++ result ∷ [] }
+        ensures unkept { C.KEEPS ≡ false → result.stamp ≡ stamp 0 0 }
+    {
+        let place = if C::KEEPS {
+            last_place(self.holdings.receipts.as_slice())
+        } else {
+            NOWHERE
+        };
+        Receipt::new(place, event, reply)
+    }
+
     /// Returns whether the client has fed a mount by a call through this pass; `false` if nothing is stored.
     pub fn has_fed(&self, id: u64) -> bool
         ensures { result ≡ has_fed id self.now }
@@ -82,5 +104,15 @@ impl<C: Chronicle, H: Origin> Pass<C, H> {
         ensures { self.new ≡ self.old }
     {
         self.whereabouts.remove(&id);
+    }
+}
+
+/// Returns the place of the last receipt, if there is one.
+fn last_place(receipts: &[Receipt]) -> Stamp
+    ensures { result ≡ last_place receipts.now }
+{
+    match receipts.last() {
+        Some(receipt) => receipt.stamp,
+        None => NOWHERE,
     }
 }

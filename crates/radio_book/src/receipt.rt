@@ -9,7 +9,7 @@ pub(crate) const NOWHERE: Stamp = Stamp { list: 0, serial: 0 };
 
 /// The receipt of a call of a book: this entry is at this place of a list of the server.
 ///
-/// [`Book::apply`](crate::Book::apply) and [`MountBook::apply`](crate::MountBook::apply) alone make one.
+/// A book makes it for a caller's pass; [`Pass::receipt`](crate::Pass::receipt) makes an equal one.
 pub struct Receipt {
     pub(crate) stamp: Stamp,
     pub(crate) event: Event,

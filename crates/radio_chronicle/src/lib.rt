@@ -2,7 +2,7 @@
 //!
 //! - [`Chronicle`]: whether entries are stored, [`Kept`] or [`Unkept`].
 //! - [`Notes`]: the list that stores them; [`Stamp`]: a place in such a list; [`ControlLine`]: a line of the control's.
-//! - [`step_twice_here`], [`thrice`]: what a mount's part does by itself, and events, for those who note them: each reply and
+//! - [`step_twice_here`], [`twice`]: what a mount's part does by itself, and events, for those who note them: each reply and
 //!   event is there as often as it is needed.
 //! - [`histories_add_up`]: what a history counts up to.
 //! - [`Origin`]: which server a list belongs to; only contracts speak of it.
@@ -18,7 +18,7 @@ mod own_steps;
 mod stamp;
 
 pub use chronicle::{Chronicle, Kept, Unkept};
-pub use copies::{Copies, thrice, twice};
+pub use copies::twice;
 pub use laws::histories_add_up;
 pub use line::ControlLine;
 pub use notes::Notes;

@@ -108,7 +108,7 @@ asking_then {ms} {a} {b} {c} {xs} {ys} goes first last = record {
       last.none stays_on none ∙ first.some (goes stays_on) (λ e. some (ap (λ (zs : List Entry). zs ++ ys) e ∙ none))
   by_some stays_on some (inr more) = last.some stays_on more
 
--- where that was noted before
+-- the moment was noted before
 pub asking_from : {ms : ℕ} {a b c : Connection} {xs : List Entry} → b.status.asked_ms ≡ a.status.asked_ms → NotesAsking ms b xs c → NotesAsking ms a xs c
 asking_from {ms} {a} {b} {c} {xs} same asking =
     record { some = asking.some; none = λ goes none. asking.none goes none ∙ same }

@@ -62,7 +62,7 @@ later_by_refusal {c} {c'} event calls taken refused = record {
 pub more_refused : (event : Event) (before after : Refused) → after ≡ one_refusal event before → before.events < after.events
 more_refused event before after refused = omega (arith, ap (λ (x : Refused). x.events) refused, one_more (is_leave event) before)
 
--- what lacked memory lacks it whatever happens beside that
+-- a connection that lacked memory at first lacks it after more calls too
 pub lacks_on : (a b c d : Connection) → a.refused.events ≤ b.refused.events → c.refused.events ≤ d.refused.events → d.session ≡ c.session → LacksMemory b c
     → LacksMemory a d
 lacks_on a b c d before behind session (inl failed) = inl (ap (λ (s : Conversation). s.has_failed) session ∙ failed)
@@ -176,7 +176,7 @@ pub once_at_most : (a b c d : Connection) → LineIsUnread a b → LineIsUnread 
 once_at_most a b c d f (inl none) g = inl (unread_then a c d (unread_then a b c f none) g)
 once_at_most a b c d f (inr read) g = inr (once_between a b c d f read g)
 
--- where nothing is left, all was taken
+-- if nothing is left, all was taken
 pub taken_all : (n : ℕ) (outgoing : List ℕ) → drop n outgoing ≡ [] → take n outgoing ≡ outgoing
 taken_all n outgoing none = sym (append-nil (take n outgoing)) ∙ ap (λ (xs : List ℕ). take n outgoing ++ xs) (sym none) ∙ take-append-drop n outgoing
 

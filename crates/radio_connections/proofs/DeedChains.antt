@@ -1,6 +1,7 @@
 -- Entries of a server made for a connection, each on the one before.
 use Rattle.std.proofs.Common.{◌≡◌, ◌⊎◌, inl, inr, arith, ℕ, Bool, true, false, List, ap}
 use Rattle.std.proofs.Common.{[], ◌∷◌, ◌++◌, refl, sym, subst, ◌∙◌}
+use Rattle.std.specs.Prelude.{get_or}
 use Rattle.radio_events.specs.declared.event.Event.TheVariants.{Draw, Leave}
 use Rattle.radio_events.specs.declared.reply.Reply.{Reply}
 use Rattle.radio_events.specs.declared.entry.Entry.{Entry}
@@ -13,7 +14,7 @@ use Rattle.radio_connections.specs.Duties.{HasEnded, ClientHasLeft, AreAtMostHea
 use Rattle.radio_connections.specs.Rooms.{draw_room}
 use Rattle.radio_connections.specs.Serving.{IsServed, IsOneDraw}
 use Rattle.radio_connections.specs.Answering.{IsAnswered, IsUnwritten, AreOf, IsHeardOn}
-use Rattle.radio_connections.specs.Leaving.{IsSame, Listens, Leaves, DrawsFor, Draws}
+use Rattle.radio_connections.specs.Leaving.{IsSame, Listens, Leaves, DrawsFor, Draws, NotesMore}
 use Rattle.radio_connections.specs.Connections.{Refused, one_refusal}
 use Rattle.radio_connections.proofs.Calling.{later_same, later_none, later_by_refusal, lacks_on, unread_same, once_between}
 use Rattle.radio_connections.proofs.Standing.{IsOne, left_on}
@@ -22,6 +23,9 @@ use Rattle.std.proofs.lemmas.Bool.{false≢true}
 use Rattle.radio_session.specs.Conversation.{Conversation}
 use Rattle.radio_session.specs.Hearing.{IsHeard}
 use Rattle.radio_connections.proofs.Askings.{unwritten_none, unwritten_then, asked_at, asking_from}
+
+pub same_reply : (id room : ℕ) (one other : Reply) → entry (Draw id room) one ∷ [] ≡ entry (Draw id room) other ∷ [] → one ≡ other
+same_reply id room one other is = ap (λ (made : List Entry). (get_or made 0 (entry (Draw id room) one)).reply) is
 
 module _ {S : Type 0} (steps : Steps S) where
   pub chain_then : (from mid to : S) (xs ys : List Entry) → Chain steps from xs mid → Chain steps mid ys to → Chain steps from (xs ++ ys) to
@@ -33,8 +37,8 @@ module _ {S : Type 0} (steps : Steps S) where
 
   -- it draws: a draw of a connection that is seen as this one is answered
   pub draws_for_one : (room : ℕ) {from to : S} {seen c c' : Connection} → seen ≡ c → c.status.fate ≡ Open → (entries : List Entry)
-      → Chain steps from entries to → IsAnswered (Draw seen.id room) seen entries c' → DrawsFor steps room from c to c'
-  draws_for_one room {from} {to} {seen} {c} {c'} is goes entries chain answered =
+      → Chain steps from entries to → IsAnswered (Draw seen.id room) seen entries c' → NotesMore seen.id room entries c' → DrawsFor steps room from c to c'
+  draws_for_one room {from} {to} {seen} {c} {c'} is goes entries chain answered more =
       let a : IsAnswered (Draw c.id room) c entries c' = subst (λ (o : Connection). IsAnswered (Draw o.id room) o entries c') is answered in
       record {
         entries = entries;
@@ -44,6 +48,7 @@ module _ {S : Type 0} (steps : Steps S) where
         once = a.once;
         sits = a.seat refl;
         asked = a.asked;
+        more = subst (λ (o : Connection). NotesMore o.id room entries c') is more;
         spared = a.spared;
       }
 
@@ -119,7 +124,7 @@ module _ {S : Type 0} (steps : Steps S) where
   pub listens_as : {ms : ℕ} {from to : S} {a b c : Connection} → a ≡ b → Listens steps ms from a to c → Listens steps ms from b to c
   listens_as {ms} {from} {to} {a} {b} {c} e = subst (λ (o : Connection). Listens steps ms from o to c) e
 
-  -- bytes that were read are heard
+  -- the connection reads bytes, and takes them
   pub listens_by_hearing : {ms : ℕ} {from to : S} {c m c' : Connection} {bytes : List ℕ} {entries : List Entry} → Chain steps from entries to
       → IsServed c entries c' → IsReadOnce c m → m.refused ≡ c.refused → m.given ≡ c.given ++ bytes → m.session ≡ c.session → IsUnwritten c m
       → m.status.asked_ms ≡ c.status.asked_ms → IsHeardOn ms bytes m entries c' → Listens steps ms from c to c'
@@ -145,7 +150,7 @@ module _ {S : Type 0} (steps : Steps S) where
       first = is.first;
     })
 
-  -- nothing was heard
+  -- the connection takes no bytes
   pub listens_to_none : {ms : ℕ} {from : S} {c c' : Connection} → IsServed c [] c' → IsReadOnce c c' → (c'.status.fate ≡ Cut → LacksMemory c c')
       → (c'.status.fate ≡ Closed → HasEnded c c') → IsUnwritten c c' → c'.status.asked_ms ≡ c.status.asked_ms → Listens steps ms from c from c'
   listens_to_none {ms} {from} {c} {c'} served read cut closed unwritten asked = record {
@@ -160,15 +165,18 @@ module _ {S : Type 0} (steps : Steps S) where
     unwritten = unwritten;
   }
 
-  -- one who has no seat, or does not go on, need not draw, nor one for whom there is no news
+  -- a client need not draw if it has no seat, does not go on, or has neither news nor more to draw
   pub draws_nothing : (ms : ℕ) (news : Bool) (from : S) (c : Connection) → (news ≡ true → c.status.sits ≡ true → c.status.fate ≡ Open → ⊥)
+      → (c.status.is_behind ≡ true → c.status.sits ≡ true → c.status.fate ≡ Open → ⊥)
       → (IsUnasked ms c → c.status.fate ≡ Open → ⊥) → Draws steps ms news from c from c
-  draws_nothing ms news from c idle asked = record {
+  draws_nothing ms news from c idle whole asked = record {
     entries = [];
     chain = refl;
     served = served_by_none c c refl (later_none c) (λ arrival past st. st);
     goes = λ e. e;
     drawn = λ new sits goes. absurd (idle new sits goes);
+    drawn_on = λ more sits goes. absurd (whole more sits goes);
+    more = λ reply is. let none : [] ≡ entry (Draw c.id (draw_room_for c.status.sits)) reply ∷ [] = is in cc;
     asked_for = λ long goes none. asked long goes;
     once = inl refl;
     sits = refl;
@@ -190,6 +198,8 @@ module _ {S : Type 0} (steps : Steps S) where
         (record { id = refl; given = refl; taken = refl; outgoing = refl; session = refl }) refl) drew.served;
     goes = λ stays_on. open_from a.status.fate goes;
     drawn = λ new sits. subst (λ (n : ℕ). IsOneDraw a.id n drew.entries c) (full sits) drew.drawn;
+    drawn_on = λ more sits. subst (λ (n : ℕ). IsOneDraw a.id n drew.entries c) (full sits) drew.drawn;
+    more = subst (λ (n : ℕ). NotesMore a.id n drew.entries c) fits drew.more;
     asked_for = λ long stays_on none. no_entry (drew.drawn stays_on) none;
     once = subst (λ (n : ℕ). IsAtMostDraw a.id n drew.entries) fits drew.once;
     sits = drew.sits;

@@ -157,7 +157,7 @@ answered_by_cut c c' event one calls spared taken asked fate = record {
   asked = asked;
 }
 
--- it is spared by what comes after something that called no line
+-- a connection is spared by a step after one that called no line
 pub spared_then : (a b c : Connection) → IsLater a b → b.calls ≡ a.calls → b.given ≡ a.given → IsUnwritten a b → IsSpared b c → IsSpared a c
 spared_then a b c before calls given unwritten spared = record {
   calls = spared.calls ∙ calls;
@@ -202,7 +202,7 @@ served_by_draw c c' room entries goes a = record {
   later = a.later;
 }
 
--- bytes that its line gave are heard, and answered
+-- the connection takes bytes that its line gave, and their events are answered
 pub heard_so : (ms : ℕ) (c m c' : Connection) (bytes : List ℕ) (heard : EventReading) (entries : List Entry) → c.status.fate ≡ Open → IsHeard c.session bytes heard
     → IsOne c m → IsLater c m → m.calls ≡ c.calls → m.given ≡ c.given → IsUnwritten c m
     → m.status.asked_ms ≡ (if length heard.events == 0 then c.status.asked_ms else ms)
@@ -220,7 +220,7 @@ heard_so ms c m c' bytes heard entries goes is one calls same given unwritten as
   spared = spared_then c m c' calls same given unwritten a.spared;
 }
 
--- or are not heard
+-- or the connection is cut off, and does not take them
 pub heard_by_cut : (ms : ℕ) (c c' : Connection) (bytes : List ℕ) → IsOne c c' → IsLater c c' → IsSpared c c' → c'.taken ≡ c.taken
     → c'.status.fate ≡ Cut → IsHeardOn ms bytes c [] c'
 heard_by_cut ms c c' bytes one calls spared taken fate = record {
@@ -237,7 +237,7 @@ heard_by_cut ms c c' bytes one calls spared taken fate = record {
 pub heard_on_one : {ms : ℕ} {a b c : Connection} {bytes : List ℕ} {xs : List Entry} → a ≡ b → IsHeardOn ms bytes a xs c → IsHeardOn ms bytes b xs c
 heard_on_one {ms} {a} {b} {c} {bytes} {xs} e = subst (λ (o : Connection). IsHeardOn ms bytes o xs c) e
 
--- its line gives bytes, and they are heard
+-- the line gives bytes, and the connection takes them
 pub served_by_hearing : {ms : ℕ} (c m c' : Connection) (bytes : List ℕ) (entries : List Entry) → IsOne c m → IsLater c m → m.given ≡ c.given ++ bytes
     → m.taken ≡ c.taken → m.outgoing ≡ c.outgoing → m.session ≡ c.session
     → m.status.fate ≡ c.status.fate → IsHeardOn ms bytes m entries c' → IsServed c entries c'

@@ -20,7 +20,7 @@ none_of_all xs ys zs e = first_none ys (none_behind xs (ys ++ zs) (sym (append_a
   first_none [] e = refl
   first_none (w ∷ ws) e = absurd (cc)
 
--- where nothing was taken in all, nothing was taken at first
+-- if the line took nothing in all, it took nothing at first
 pub taken_between : {a b c : Connection} → IsLater a b → IsLater b c → c.taken ≡ a.taken → b.taken ≡ a.taken
 taken_between {a} {b} {c} first later same =
     first.taken.1
@@ -63,7 +63,7 @@ unwritten_by {ms} {a} {b} (TookNone taken noted) same = record {
 }
 unwritten_by {ms} {a} {b} (TookSome some goes noted) same = absurd (some same)
 
--- what is noted beside that
+-- a write is noted, between two steps that write nothing
 noted_between : {ms : ℕ} {a b c d : Connection} → IsUnwritten a b → WriteIsNoted ms b c → IsUnwritten c d
     → IsUnwritten a d ⊎ (HasTakenSome a d × (d.status.moved_ms ≡ ms) × (d.status.has_taken ≡ true))
 noted_between {ms} {a} {b} {c} {d} before (TookNone taken noted) behind =
@@ -75,7 +75,7 @@ noted_between {ms} {a} {b} {c} {d} before (TookSome some goes noted) behind = in
 )
 
 module _ {S : Type 0} (steps : Steps S) where
-  -- nothing is written where a client leaves
+  -- nothing is written when a client leaves
   pub unwritten_by_leaving : {from to : S} {c c' : Connection} → Leaves steps from c to c' → IsUnwritten c c'
   unwritten_by_leaving {from} {to} {c} {c'} left = record {
     taken = left.same.taken;

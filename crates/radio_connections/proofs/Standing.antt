@@ -1,4 +1,4 @@
--- How a connection stands after each thing that can happen on it.
+-- What a connection is after each thing that can happen on it.
 use Rattle.std.proofs.Common.{◌≡◌, ℕ, Bool, true, false, ◌||◌, List, [], ◌∷◌, ◌++◌, refl, ap, sym, subst, ◌∙◌, append_assoc, append-nil}
 use Rattle.radio_events.specs.declared.event.Event.{Event}
 use Rattle.radio_events.specs.declared.event.Event.TheVariants.{Draw, Leave}
@@ -50,7 +50,7 @@ begun_text Closed text taken outgoing h = ([], h ∙ sym (append-nil taken))
 begun_text Cut text taken outgoing h = h
 
 module _ {arrival : Arrival} (c' : Connection) (pending : List Event) (entries : List Entry) (t : Standing) (f : Fate) where
-  -- a connection of this fate stands so
+  -- a connection of this fate keeps its history, by these parts
   pub stands_so : Course arrival c'.id t → t.given ≡ c'.given → t.entries ≡ entries → t.pending ≡ pending → t.sits ≡ c'.status.sits → t.has_left ≡ c'.status.has_left
       → c'.status.fate ≡ f → t.fate ≡ f → (f ≡ Open → t.session ≡ c'.session) → IsHanded f t.text c'.taken c'.outgoing → StandsBefore arrival pending c' entries
   stands_so course given same_entries same_pending sits left fate same_fate session handed = record {
@@ -80,7 +80,7 @@ module _ {arrival : Arrival} (c c' : Connection) (pending : List Event) (past : 
       (subst (λ (xs : List ℕ). IsHanded c.status.fate st.standing.text xs c'.outgoing) (sym taken)
       (subst (λ (xs : List ℕ). IsHanded c.status.fate st.standing.text c.taken xs) (sym outgoing) st.handed))
 
-  -- it is cut off, with bytes that were not heard
+  -- the connection is cut off, with bytes that it did not take
   pub cut_off : (unheard : List ℕ) → c'.given ≡ c.given ++ unheard → c'.taken ≡ c.taken → c'.status.fate ≡ Cut → Stands arrival c' past
   cut_off unheard given taken fate =
       let s = st.standing in
@@ -103,7 +103,7 @@ module _ {arrival : Arrival} (c c' : Connection) (past : List Entry) (one : IsOn
       (st.same_sits ∙ sym one.sits) (st.same_left ∙ sym one.left) fate refl (λ o. absurd (cc))
       (written_text c.status.fate goes s.text c.taken c.outgoing st.handed ∙ ap (λ (xs : List ℕ). c.taken ++ xs) outgoing ∙ append-nil c.taken ∙ sym taken)
 
-  -- bytes come, and are heard
+  -- the connection takes bytes that arrive
   pub heard_on : c.status.fate ≡ Open → (bytes : List ℕ) (heard : EventReading) → IsHeard c.session bytes heard → c'.given ≡ c.given ++ bytes → c'.taken ≡ c.taken
       → c'.outgoing ≡ c.outgoing
       → c'.session ≡ heard.conversation → c'.status.fate ≡ c.status.fate → StandsBefore arrival heard.events c' past
@@ -166,7 +166,7 @@ module _ {arrival : Arrival} (c c' : Connection) (past : List Entry) (reply : Re
       (subst (λ (xs : List ℕ). IsHanded c.status.fate s.text xs c'.outgoing) (sym taken)
       (subst (λ (xs : List ℕ). IsHanded c.status.fate s.text c.taken xs) (sym outgoing) st.handed))
 
--- what was heard after an end is not applied
+-- events after an end are not applied
 later_is : (state : State) (later : List Event) → pending_by state later ≡ later_by (fate_by state) later
 later_is Running later = refl
 later_is (Shut ending) later = refl

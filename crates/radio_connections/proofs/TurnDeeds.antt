@@ -85,7 +85,7 @@ module _ {S : Type 0} (steps : Steps S) where
       long = long_before first.noted lingered.long;
     })
 
-  -- who lingers on, once it was worked for
+  -- a connection lingers on after its turn
   let_go_of : {news : Bool} {from one two to : S} {ms : ℕ} {a b c d e f : Connection} → IsFlushed ms a b → Works steps ms news from b one c
       → Leaves steps one c two d → IsFlushed ms d e → Leaves steps two e to f → a.status.fate ≡ Ended → f.status.fate ≡ Ended → Lingers ms a f
   let_go_of {news} {from} {one} {two} {to} {ms} {a} {b} {c} {d} {e} {f} first works left last over before after = by_work (works.lingers at_c) where
@@ -125,7 +125,7 @@ module _ {S : Type 0} (steps : Steps S) where
       in_time = subst (λ (n : ℕ). ms - n < 1000) (sym (unwritten_by_leaving steps over).moved) (in_time last.noted r.1.in_time);
     }
 
-  -- a client who has left does not leave again
+  -- a client that has left does not leave again
   at_most_once : {from mid two to : S} {c d e f : Connection} (left : Leaves steps from c mid d) (over : Leaves steps two e to f) → e.id ≡ c.id
       → e.status.has_left ≡ d.status.has_left → IsAtMostLeaving c.id (left.entries ++ over.entries)
   at_most_once {from} {mid} {two} {to} {c} {d} {e} {f} left over same kept = by_first left.gone where
@@ -191,7 +191,7 @@ module _ {S : Type 0} (steps : Steps S) where
     open_before : f.status.fate ≡ Open → c.status.fate ≡ Open
     open_before goes = sym left.fate ∙ last.goes (sym over.fate ∙ goes)
 
-    -- nobody leaves who goes on
+    -- a client that goes on does not leave
     alone : f.status.fate ≡ Open → works.entries ++ (left.entries ++ over.entries) ≡ works.entries
     alone goes =
         ap (λ (xs : List Entry). works.entries ++ (xs ++ over.entries)) (left.alone (open_before goes))

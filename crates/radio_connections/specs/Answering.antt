@@ -46,7 +46,8 @@ pub record IsSpared (c c' : Connection) : Type 0 where
 -- rule: Connection without memory
 pub record IsAnswered (event : Event) (c : Connection) (entries : List Entry) (c' : Connection) : Type 0 where
   pub same : c'.id ≡ c.id
-  -- there is one entry of it at most, and one where it goes on; and to another event than a request to hear a mount, no seat is given
+  -- The event has at most one entry, and has one if the connection goes on. Only a request to listen to a mount may give it a
+  -- seat.
   pub once : (entries ≡ []) ⊎ ((reply : Reply) × (entries ≡ entry event reply ∷ []))
   pub made : c'.status.fate ≡ Open → (reply : Reply) × (entries ≡ entry event reply ∷ [])
   pub seat : is_listen event ≡ false → c'.status.sits ≡ c.status.sits
@@ -59,7 +60,7 @@ pub record IsAnswered (event : Event) (c : Connection) (entries : List Entry) (c
 -- its events were applied, up to its end
 pub record AreAnswered (events : List Event) (c : Connection) (entries : List Entry) (c' : Connection) : Type 0 where
   pub same : c'.id ≡ c.id
-  -- the first of them, and all where it goes on
+  -- the first of the events have entries, and all have if the connection goes on
   pub first : AreFirstOf entries events
   pub all : c'.status.fate ≡ Open → events ≡ events_of entries
   pub stands : (arrival : Arrival) (past : List Entry) → StandsBefore arrival events c past → Stands arrival c' (past ++ entries)

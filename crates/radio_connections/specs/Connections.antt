@@ -34,10 +34,10 @@ refused_one false refused = record { events = suc refused.events; leavings = ref
 abbrev pub one_refusal : Event → Refused → Refused
 one_refusal event refused = refused_one (is_leave event) refused
 
--- the number of its client, all that its line gave and took, how often it was called, what is pending, its session, what its worker
--- notes of it, and what was refused to it
+-- A connection: the number of its client, all that its line gave and took, and how often the line was called. Then what is
+-- pending, its session, what its worker notes of it, and what was refused to it.
 pub record Connection : Type 0 where
-  -- 0 where it is nobody's
+  -- 0 if it has no client
   pub id : ℕ
   pub given : List ℕ
   pub taken : List ℕ
@@ -57,7 +57,7 @@ abbrev pub newly_come : WebAnswers → ℕ → Peer → List ℕ → List ℕ �
 newly_come web id peer given taken calls ms =
     record { id = id; given = given; taken = taken; calls = calls; outgoing = []; session = fresh web id peer; status = status_at Open false ms; refused = no_refusals }
 
--- the connection of nobody, whose conversation has ended so
+-- a connection without a client, whose conversation has ended with this
 abbrev pub newly_ended : List ℕ → List ℕ → Calls → List ℕ → Conversation → ℕ → Connection
 newly_ended given taken calls outgoing session ms =
     record { id = 0; given = given; taken = taken; calls = calls; outgoing = outgoing; session = session; status = status_at Ended true ms; refused = no_refusals }
@@ -80,7 +80,7 @@ abbrev pub without_at : Option ℕ → List Connection → List Connection
 without_at None cs = cs
 without_at (Some i) cs = remove cs i
 
--- without the first of those who linger
+-- the connections without the first lingering one
 -- rule: Most that linger
 abbrev pub without_first : List Connection → List Connection
 without_first cs = without_at (position lingers cs) cs

@@ -24,7 +24,7 @@ pub record Arrival : Type 0 where
   pub peer : Peer
   pub reply : Reply
 
--- the reply lets nobody in
+-- the reply admits no client
 abbrev pub LetsNobodyIn : Reply → Type 0
 LetsNobodyIn (Arrived id) = ⊥
 LetsNobodyIn reply = Unit {0}
@@ -139,7 +139,7 @@ pub data Course (arrival : Arrival) (id : ℕ) : Standing → Type 0 where
   closes : (s : Standing) → Course arrival id s → IsWritten s.fate → s.pending ≡ [] → Course arrival id (record s { fate = Closed })
   -- it is cut off: bytes that came are not read, events are not applied, or not all is written
   is_cut : (s : Standing) → Course arrival id s → (unheard : List ℕ) → Course arrival id (record s { given = s.given ++ unheard; pending = []; fate = Cut })
-  -- what comes after its end is passed over
+  -- what arrives after its end is ignored
   passes_over : (s : Standing) → Course arrival id s → s.fate ≡ Ended → (bytes : List ℕ) → Course arrival id (record s { given = s.given ++ bytes })
   -- its client leaves, once it is over
   leaves : (s : Standing) → Course arrival id s → IsOver s.fate → s.has_left ≡ false → (reply : Reply)

@@ -88,22 +88,22 @@ HasTakenSome c c' = c'.taken ≡ c.taken → ⊥
 abbrev pub IsIdle : Connection → Type 0
 IsIdle c = (c.status.fate ≡ Open) × (c.outgoing ≡ [])
 
--- its peer knows that nothing more is written
+-- the peer learns that nothing more is written
 abbrev pub IsFinishedNow : Connection → Connection → Type 0
 IsFinishedNow c c' = (c.status.is_finished ≡ false) × (c'.status.is_finished ≡ true)
 
--- That counts from the last turn in which its line took something, or nothing was pending when its turn came, or it was closed for
--- writing: then the moment is that of the turn,
+-- The patience counts from the last turn in which one of these holds: the line took something, nothing was pending when the turn
+-- came, or the connection was closed for writing. Then the moment is that of the turn,
 -- rule: Cut off
 abbrev pub HasMoved : ℕ → Connection → Connection → Type 0
 HasMoved ms c c' = HasTakenSome c c' ⊎ (IsIdle c ⊎ IsFinishedNow c c') → c'.status.moved_ms ≡ ms
 
--- and else it is as it was.
+-- and else it stays as it was.
 -- rule: Cut off
 abbrev pub HasNotMoved : Connection → Connection → Type 0
 HasNotMoved c c' = c'.taken ≡ c.taken → (IsIdle c → ⊥) → (IsFinishedNow c c' → ⊥) → c'.status.moved_ms ≡ c.status.moved_ms
 
--- It is noted that its line has taken something where it has, and only there.
+-- If its line has taken something, that is noted. If it has taken nothing, the note stays as it was.
 -- rule: Cut off
 pub record NotesTaking (c c' : Connection) : Type 0 where
   pub some : HasTakenSome c c' → c'.status.has_taken ≡ true
@@ -153,13 +153,13 @@ pub data WhyClosed (ms : ℕ) (c c' : Connection) : Type 0 where
   -- it had ended, and has lingered for a second
   LingeredOn : HasLingered ms c → WhyClosed ms c c'
 
--- It is closed only for such a cause.
+-- A connection is closed only for such a cause.
 -- rule: Lingering
 abbrev pub IsClosedFor : ℕ → Connection → Connection → Type 0
 IsClosedFor ms c c' = c'.status.fate ≡ Closed → WhyClosed ms c c'
 
--- It lingers: something was written to it, it was closed for writing, its line was read from and reported no end, and less than a second
--- has passed since then.
+-- A lingering connection: something was written on it, it was closed for writing, and its line was read and reported no end. Less
+-- than a second has passed since then.
 -- rule: Lingering
 pub record Lingers (ms : ℕ) (c c' : Connection) : Type 0 where
   pub written : c'.status.has_taken ≡ true
@@ -178,7 +178,7 @@ IsLetGo ms c c' = c.status.fate ≡ Ended → c'.status.fate ≡ Ended → c'.ou
 abbrev pub IsFinishedFor : Connection → Connection → Type 0
 IsFinishedFor c c' = IsFinishedNow c c' → (c.status.fate ≡ Ended) × HasTakenAll c c'
 
--- Who is over has left, or its leaving was refused for want of memory.
+-- A client whose connection is over has left, or its `Leave` was refused for want of memory.
 -- rule: Lingering
 abbrev pub ClientHasLeft : Connection → Connection → Type 0
 ClientHasLeft c c' = (c'.status.fate ≡ Open → ⊥) → (c'.status.has_left ≡ true) ⊎ (c.refused.leavings < c'.refused.leavings)
@@ -203,7 +203,7 @@ pub record AreHeard (c : Connection) (entries : List Entry) (c' : Connection) : 
 abbrev pub AreAtMostHeard : Connection → List Entry → Connection → Type 0
 AreAtMostHeard c entries c' = (entries ≡ []) ⊎ AreHeard c entries c'
 
--- the room of a draw for who has a seat, and for who has none
+-- the room of a draw, for a client with a seat and for one without
 abbrev pub draw_room_for : Bool → ℕ
 draw_room_for true = draw_room
 draw_room_for false = 0

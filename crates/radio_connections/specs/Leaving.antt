@@ -1,7 +1,8 @@
 -- What each part of a connection's turn leaves of it.
-use Rattle.std.specs.Prelude.{◌≡◌, ◌<◌, ◌-◌, ◌⊎◌, ℕ, Bool, true, false, List, [], ◌++◌}
-use Rattle.radio_events.specs.declared.event.Event.TheVariants.{Leave}
+use Rattle.std.specs.Prelude.{◌≡◌, ◌<◌, ◌-◌, ◌⊎◌, ℕ, Bool, true, false, List, [], ◌∷◌, ◌++◌}
+use Rattle.radio_events.specs.declared.event.Event.TheVariants.{Draw, Leave}
 use Rattle.radio_events.specs.declared.reply.Reply.{Reply}
+use Rattle.radio_events.specs.Events.{entry}
 use Rattle.radio_events.specs.declared.entry.Entry.{Entry}
 use Rattle.radio_events.specs.Servers.{Steps, Chain}
 use Rattle.radio_connections.specs.declared.conn.Fate.TheVariants.{Open, Ended, Closed, Cut}
@@ -11,7 +12,7 @@ use Rattle.radio_connections.specs.Lines.{Calls}
 use Rattle.radio_connections.specs.Connections.{Connection, Refused, is_open, one_refusal}
 use Rattle.radio_connections.specs.Duties.{IsWritten, LineIsUnread, IsReadOnce, IsAskedOnce, LineIsGiven, IsAtMostLeaving, HasStalled, HasTakenSome, IsFinishedNow}
 use Rattle.radio_connections.specs.Duties.{LacksMemory, HasEnded, WhyClosed, Lingers, ClientHasLeft, AreAtMostHeard, draw_room_for, IsAtMostDraw, IsUnasked, NotesAsking}
-use Rattle.radio_connections.specs.Rooms.{draw_room}
+use Rattle.radio_connections.specs.Rooms.{draw_room, fills_room}
 use Rattle.radio_connections.specs.Answering.{IsSpared, IsUnwritten}
 use Rattle.radio_connections.specs.Serving.{IsServed, IsOneDraw, HasDrawn}
 
@@ -27,7 +28,8 @@ pub record IsSame (c c' : Connection) : Type 0 where
 abbrev pub IsCutByFault : Connection → Connection → Type 0
 IsCutByFault c c' = c'.status.fate ≡ Cut → (c.status.fate ≡ Cut) ⊎ (c.calls.faults < c'.calls.faults)
 
--- what is noted of a write at this moment: nothing where its line took nothing, and else that it took something, and when
+-- What is noted of a write at this moment. If the line took nothing, nothing is noted. Else it is noted that the line took
+-- something, and when.
 pub data WriteIsNoted (ms : ℕ) (c c' : Connection) : Type 0 where
   TookNone : c'.taken ≡ c.taken → c'.status ≡ record c.status { fate = c'.status.fate } → WriteIsNoted ms c c'
   TookSome : HasTakenSome c c' → IsWritten c.status.fate → c'.status ≡ record c.status { moved_ms = ms; has_taken = true } → WriteIsNoted ms c c'
@@ -93,6 +95,10 @@ pub record StaysEnded (ms : ℕ) (c c' : Connection) : Type 0 where
   pub closed : c'.status.fate ≡ Closed → WhyClosed ms c c'
   pub lingers : c'.status.fate ≡ Ended → Lingers ms c c'
 
+-- after a draw with this room, it is noted whether the reply was as long as a listener has room for, so that there may be more
+abbrev pub NotesMore : ℕ → ℕ → List Entry → Connection → Type 0
+NotesMore id room entries c' = (reply : Reply) → entries ≡ entry (Draw id room) reply ∷ [] → c'.status.is_behind ≡ fills_room reply
+
 -- its line was not called; it is as before, or is not closed, and cut off only if memory was refused
 abbrev pub IsSparedBefore : Connection → Connection → Type 0
 IsSparedBefore c c' = (c' ≡ c) ⊎ IsSpared c c'
@@ -148,7 +154,7 @@ module _ {S : Type 0} (steps : Steps S) where
     pub served : IsServed c entries c'
     pub alone : c.status.fate ≡ Open → entries ≡ []
     pub leaving : IsAtMostLeaving c.id entries
-    -- where it had left, it does not leave again; and where it leaves, it has left
+    -- a client that has left does not leave again, and after a `Leave` it has left
     pub again : c.status.has_left ≡ true → entries ≡ []
     pub gone : (entries ≡ []) ⊎ (c'.status.has_left ≡ true)
     pub fate : c'.status.fate ≡ c.status.fate
@@ -167,15 +173,20 @@ module _ {S : Type 0} (steps : Steps S) where
     pub once : IsAtMostDraw c.id room entries
     pub sits : c'.status.sits ≡ c.status.sits
     pub asked : c'.status.asked_ms ≡ c.status.asked_ms
+    pub more : NotesMore c.id room entries c'
     pub spared : IsSpared c c'
 
-  -- at this moment, whatever was done, one who has a seat has drawn where there is news, and one for whom nothing was asked for so long
+  -- At this moment a client with a seat has drawn if there is news. So has a client for which nothing was applied for half a
+  -- second.
   pub record Draws (ms : ℕ) (news : Bool) (from : S) (c : Connection) (to : S) (c' : Connection) : Type 0 where
     pub entries : List Entry
     pub chain : Chain steps from entries to
     pub served : IsServed c entries c'
     pub goes : c'.status.fate ≡ Open → c.status.fate ≡ Open
     pub drawn : news ≡ true → c.status.sits ≡ true → IsOneDraw c.id draw_room entries c'
+    -- one for whom there may be more has drawn too
+    pub drawn_on : c.status.is_behind ≡ true → c.status.sits ≡ true → IsOneDraw c.id draw_room entries c'
+    pub more : NotesMore c.id (draw_room_for c.status.sits) entries c'
     pub asked_for : IsUnasked ms c → c'.status.fate ≡ Open → entries ≡ [] → ⊥
     pub once : IsAtMostDraw c.id (draw_room_for c.status.sits) entries
     pub sits : c'.status.sits ≡ c.status.sits

@@ -5,8 +5,8 @@ use Rattle.radio_connections.specs.declared.line.Received.TheVariants.{Bytes, No
 use Rattle.radio_connections.specs.declared.line.Sent.{Sent}
 use Rattle.radio_connections.specs.declared.line.Sent.TheVariants.{Took, Nothing as TookNothing, Fault as HasFailed}
 
--- how often a line was read from, for how many bytes there was room in all these reads, how often it was written to, how often it has failed,
--- and how often it has reported that its peer has closed
+-- The calls of a line: how often it was read, how much room all these reads had, and how often it was written to. Then how often
+-- it has failed, and how often it has reported that its peer has closed.
 -- rule: Pending bytes first
 pub record Calls : Type 0 where
   pub reads : ℕ

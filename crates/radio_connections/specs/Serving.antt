@@ -49,7 +49,7 @@ pub record IsServed (c : Connection) (entries : List Entry) (c' : Connection) : 
   pub stands : (arrival : Arrival) (past : List Entry) → Stands arrival c past → Stands arrival c' (past ++ entries)
   pub later : IsLater c c'
 
--- where the connection goes on, its one entry is this draw
+-- if the connection goes on, its one entry is this draw
 abbrev pub IsOneDraw : ℕ → ℕ → List Entry → Connection → Type 0
 IsOneDraw id room entries c' = c'.status.fate ≡ Open → (reply : Reply) × (entries ≡ entry (Draw id room) reply ∷ [])
 
@@ -57,8 +57,8 @@ IsOneDraw id room entries c' = c'.status.fate ≡ Open → (reply : Reply) × (e
 abbrev pub EndsWithDraw : ℕ → List Entry → Type 0
 EndsWithDraw id entries = (others : List Entry) × (reply : Reply) × (entries ≡ others ++ entry (Draw id draw_room) reply ∷ [])
 
--- If there is news, a connection that has a seat and goes on has drawn, last of all, if nothing was pending when its turn
--- came.
+-- If there is news, a connection that has a seat and goes on has drawn, as the last thing. This holds if nothing was pending when
+-- its turn came.
 -- rule: Drawing
 abbrev pub HasDrawn : Bool → Connection → List Entry → Connection → Type 0
 HasDrawn news c entries c' = news ≡ true → c.outgoing ≡ [] → c'.status.fate ≡ Open → c'.status.sits ≡ true → EndsWithDraw c.id entries

@@ -7,8 +7,8 @@ use crate::history::History;
 use crate::{Received, Sent};
 use std::marker::Model;
 
-/// How often a line was read from, with how much room, how often it was written to, has failed, and has
-/// reported that its peer has closed. In contracts it is these numbers.
+/// The calls of a line: how often it was read and with how much room, and how often it was written to. Then how often
+/// it has failed, and how often it has reported that its peer has closed. In contracts its value is these numbers.
 #[derive(Drop)]
 pub struct CallCount {
     reads: History,

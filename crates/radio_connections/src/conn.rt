@@ -124,7 +124,7 @@ impl<L: Line> Conn<L> {
     ghost use Rattle.radio_connections.specs.Admission.{IsTakenIn};
     ghost use Rattle.radio_connections.specs.Course.{LetsNobodyIn};
 
-    /// The connection of a client who was let in under this number.
+    /// Returns the connection of a client that was admitted under this number.
     fn new(alloc: Global, web: WebAnswers, id: u64, peer: Peer, line: L, ms: u64) -> Conn<L>
         ensures { result ≡ newly_come web id peer (L.given line) (L.taken line) (L.calls line) ms }
     {
@@ -164,7 +164,7 @@ impl<L: Line> Conn<L> {
         }
     }
 
-    /// The connection of nobody, whose conversation has ended.
+    /// Returns a connection without a client, whose conversation has ended.
     fn ended(line: L, session: Session, outgoing: Outgoing, account: Account, ms: u64) -> Conn<L>
         ensures { result ≡ newly_ended (L.given line) (L.taken line) (L.calls line) outgoing session ms }
     {
@@ -192,7 +192,7 @@ impl<L: Line> Conn<L> {
         ensures taken_in { IfOk result (λ c. IsTakenIn (record { web = web; peer = peer; reply = reply }) (L.given line) (L.taken line) c) }
         ensures answers { IfOk result (λ c. c.session.says.web ≡ web) }
         ensures denial { IfOk result (λ c. (rule : Rule) → reply ≡ Deny rule → c.outgoing ≡ (said (asking web) (Deny rule)).bytes) }
-        // memory is wanted only for one who was not let in
+        // only a connection without a client needs memory here
         ensures err { OnErr result (LetsNobodyIn reply) }
     {
         let Reply::Arrived(id) = reply else {
@@ -220,7 +220,7 @@ impl<L: Line> Conn<L> {
         self.status.is_finished && self.status.has_left
     }
 
-    /// The number of its client; 0 where it is nobody's.
+    /// Returns the number of the connection's client, or 0 if it has no client.
     pub fn id(&self) -> u64
         ensures { result ≡ self.now.id }
     {

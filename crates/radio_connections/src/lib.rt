@@ -1,11 +1,11 @@
 //! Connections over lines, and what one turn does for one connection.
 //!
-//! - [`Line`], [`Gate`]: where a connection's bytes come from and go to, and what is called around
+//! - [`Line`], [`Gate`]: the transport of a connection's bytes, and what a worker calls around
 //!   writes.
 //! - [`CallCount`], [`History`]: what a line notes for proofs alone.
 //! - [`Conn`]: a connection. [`Conn::admitted`] makes it of an arrival, and [`serve`] serves it, at a moment ([`Now`]),
 //!   with what its worker lends it ([`Workspace`]).
-//! - [`Server`]: whom a connection asks. [`WebAnswers`]: what the settings say of its answers. [`DRAW_ROOM`]: how much a
+//! - [`Server`]: what a connection asks. [`WebAnswers`]: the settings for its answers. [`DRAW_ROOM`]: how much a
 //!   listener draws in a turn; [`fills_room`]: whether there may be more than it drew.
 //! - [`count_lingering`], [`close_first_lingering`]: those on which nothing more is written.
 #![tactic(auto)]

@@ -14,7 +14,7 @@ pub fn count_lingering<L: Line>(conns: &[Conn<L>]) -> usize
     conns.iter().filter(|conn| conn.lingers()).count()
 }
 
-/// Closes the first of those who linger, which has come before the others; nothing where nobody does.
+/// Closes the lingering connection that came first, if one lingers.
 // rule: Most that linger
 pub fn close_first_lingering<L: Line>(conns: &mut Vec<Conn<L>>)
     ensures { conns.new.items ≡ without_first conns.old.items }

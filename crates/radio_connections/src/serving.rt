@@ -25,7 +25,7 @@ pub struct Now {
 /// After how long without an event a client is asked for, in milliseconds.
 pub(crate) const ASKED_AFTER_MS: u64 = 500;
 
-/// For how long what comes behind an end is passed over, in milliseconds.
+/// For how long the connection ignores what arrives after an end, in milliseconds.
 pub(crate) const LINGER_MS: u64 = 1000;
 
 impl Now {

@@ -5,8 +5,8 @@ use std::alloc::Global;
 /// How many bytes are read from a line in a turn at most.
 pub(crate) const READ_ROOM: usize = 16384;
 
-/// What a worker lends each connection in its turn: where the bytes of its line come first, and memory for
-/// what is pending. What is in either between turns has no meaning.
+/// The memory that a worker lends each connection in its turn: a buffer for the bytes that its line gives, and memory
+/// for what is pending. Between turns the contents of both have no meaning.
 pub struct Workspace {
     pub(crate) buffer: [u8; READ_ROOM],
     pub(crate) spare: Vec<u8>,

@@ -121,7 +121,7 @@ pub open_joined : (says : Says) (before more : List Reply) → IsOpen says befor
 open_joined says [] more h k = k
 open_joined says (reply ∷ before) more h k = (h.0, open_joined (said says reply).says before more h.1 k)
 
--- where the exchange goes on, so do they
+-- if the exchange goes on, so do the replies
 pub record GoesOn (w : World) (id : ℕ) (says : Says) (asked : List Event) : Type 0 where
   pub goes : IsOpen says (replies (entries w (applied w id says asked)))
   pub so : (exchanged w id says asked).exchange.says ≡ said_all says (replies (entries w (applied w id says asked)))

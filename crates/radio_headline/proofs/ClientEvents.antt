@@ -57,7 +57,7 @@ pub none_pushed : (log : List Entry) → Each (λ e. PushesNothing e.event) log 
 none_pushed [] h = refl
 none_pushed (e ∷ log) h = ap (λ (xs : List ℕ). xs ++ pushed (events_of log)) h.0 ∙ none_pushed log h.1
 
--- what is pushed is a front of what was asked to be, and all of it where the connection goes on
+-- the blocks pushed are a front of those that the events ask to push, and all of them if the connection goes on
 pub record Pushed (w : World) (id : ℕ) (says : Says) (asked : List Event) : Type 0 where
   pub rest : List ℕ
   pub front : pushed (applied w id says asked) ++ rest ≡ pushed asked
@@ -140,7 +140,7 @@ pub entries_each : (P : Event → Type 0) (w : World) (events : List Event) → 
 entries_each P w [] h = tt
 entries_each P w (e ∷ events) h = (h.0, entries_each P (world_after w e) events h.1)
 
--- whose events they are
+-- the events of this connection are of this client
 pub idle_is_his : (id : ℕ) (event : Event) → IsIdle id event → client_in event ≡ Some id
 idle_is_his id (Arrive peer) h = elim h [ ]
 idle_is_his id (Source asked) h = elim h [ ]

@@ -175,7 +175,7 @@ module _ (web : WebAnswers) (settled : IsStableReading ShowsRequest) (within : H
               (applied_each (λ e. AsksForMount e → ⊥) w id conversation.says events (λ a. a)
               (asked_as (IsIdle id) _ (λ e h. idle_asks_nothing id e h) events asked))
 
-    -- whose request it was
+    -- the arrival of this connection is of this client
     same_arrival : (peer : Peer) (him : ℕ) (rest : List Entry) → log ≡ arrival peer him ∷ rest → him ≡ id
     same_arrival peer him rest e =
         let both : arrival peer him ∷ rest ≡ arrival conversation.peer id ∷ c.others = sym e ∙ c.arrived in

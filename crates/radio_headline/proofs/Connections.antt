@@ -62,7 +62,7 @@ IsBehindRequest id event = ⊥
 abbrev pub IsNoRequest : ℕ → Entry → Type 0
 IsNoRequest id e = IsBehindRequest id e.event
 
--- by this event a client asks to hear or to feed a mount, or a relay comes up there
+-- by this event a client asks to listen to a mount or to feed it, or gives a command, or a relay comes up there
 abbrev pub AsksForMount : Event → Type 0
 AsksForMount (Listen asked) = Unit {0}
 AsksForMount (Source asked) = Unit {0}
@@ -133,7 +133,7 @@ pub record Pulls (bytes : List ℕ) (log : List Entry) : Type 0 where
 abbrev pub IsGreeted : (web : WebAnswers) → {bytes : List ℕ} {log : List Entry} → Feeds bytes log → List ℕ → Type 0
 IsGreeted web f given = Greeted web f.id f.idle f.request f.reply given
 
--- the stream behind what has come of it
+-- the stream after the part that has come
 abbrev pub stream_after : {bytes : List ℕ} {log : List Entry} → Pulls bytes log → PulledStream
 stream_after {bytes = bytes} p = after_bytes (stream_with p.interval) (drop p.length bytes)
 

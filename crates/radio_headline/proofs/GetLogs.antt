@@ -54,7 +54,7 @@ pub orderly_second : (id : ℕ) (log more : List Entry) → IsOrderly id (log ++
 orderly_second id [] more h = h
 orderly_second id (e ∷ log) more h = orderly_second id log more h.1
 
--- this event asks for a mount, to hear it
+-- this event asks to listen to a mount, or gives a command
 abbrev pub IsGetting : Event → Type 0
 IsGetting (Listen asked) = Unit {0}
 IsGetting (Command asked) = Unit {0}
@@ -113,7 +113,7 @@ pub no_entry : (before behind : List Entry) (e : Entry) → [] ≡ before ++ e �
 no_entry [] behind e h = cc
 no_entry (x ∷ before) behind e h = cc
 
--- if a client asks to hear a mount, a GET was read
+-- if a client asks to listen to a mount, or gives a command, a GET was read
 module _ (web : WebAnswers) (bytes : List ℕ) (log : List Entry) (given : List ℕ) (before behind : List Entry) (e : Entry) (parts : log ≡ before ++ e ∷ behind)
     (listens : IsGetting e.event) where
   never : {A : Type 0} → Each GetsNot log → A

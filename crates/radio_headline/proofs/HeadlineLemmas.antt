@@ -81,7 +81,7 @@ module _ (settings : Settings) (lists : Lists)
       subst (λ (x : World). (world_after_all x more).station.settings ≡ settings) then_one
       (settings_along (past ++ event ∷ []) more (ap (λ (x : World). x.station.settings) then_one ∙ keeps past event ∙ e))
 
-  -- a session that nobody feeds is awaited
+  -- a session that no source feeds is awaited
   is_awaited : (station : StationState) → station.settings ≡ settings → (mount : List ℕ) (session : Session) → silence_of station mount ≡ Some session
       → IsAwaited settings lists brought course mount session.number session.shown
   is_awaited station same mount session = by_flag (is_on_demand station.settings mount) refl where

@@ -1,4 +1,4 @@
--- What a client is given that asks to hear a mount.
+-- What a client gets that asks to listen to a mount.
 use Rattle.std.proofs.Common.{◌≡◌, inl, inr, ℕ, ◌==◌, Bool, true, false, List, [], ◌∷◌, ◌++◌, Option, None, Some, refl, sym, ap, subst, ◌∙◌}
 use Rattle.std.specs.Prelude.{if◌then◌else◌}
 use Rattle.std.specs.List.{AllByRecursion}
@@ -91,7 +91,7 @@ module _ (web : WebAnswers) (settings : Settings) (lists : Lists)
       (λ other. (each other).own)
       (none_nowhere label id course nowhere)
 
--- a client that has asked for nothing yet, and asks to hear a mount, is not out of place
+-- a client that has asked for nothing yet, and asks to listen to a mount, is not out of place
 module _ (w : World) (asked : ListenRequest)
     (allowed : (peer : Peer) → standing_of w asked.id ≡ Undecided peer → verdict_in (rows_to_listen w asked) ≡ Allow → ⊥) where
   at_page : (path : WebPath) (s : Standing) → IsNew s → standing_of w asked.id ≡ s → (asks_by w asked (Some path)).reply ≡ Stray → ⊥
@@ -303,7 +303,7 @@ module _ (web : WebAnswers) (settings : Settings) (lists : Lists)
       told = reads_text label (Command asked) tt past later parts;
     }
 
-    -- a client asks to hear a mount
+    -- a client asks to listen to a mount
     module _ (label : ℕ) (asked : ListenRequest) (past later : List Happening) (parts : course ≡ past ++ on label (Listen asked) ∷ later) where
       abbrev at : World
       at = run_after settings lists (events_in past)

@@ -48,7 +48,7 @@ log_joined w (h ∷ past) more label =
     ∙ sym (append_assoc (entry_on w h label) (log_on (world_after w h.event) past label)
     (log_on (world_after_all (world_after w h.event) (events_in past)) more label))
 
--- cut where an event was asked on the label
+-- the log, split at the event that was applied on the label
 pub log_parted : (w : World) (past later : List Happening) (label : ℕ) (event : Event) → log_on w (past ++ on label event ∷ later) label
     ≡ log_on w past label ++ applied_entry (world_after_all w (events_in past)) event ∷ log_on (world_after (world_after_all w (events_in past)) event) later label
 log_parted w past later label event =

@@ -71,7 +71,7 @@ pub brings_noted : (w : World) (event : Event) → block_in (outcome w event).ch
 unfolding reply_to
 brings_noted w event = (forms_by w event (outcome w event) (way_of w event)).brings
 
--- the replies to a request to hear a mount
+-- the replies to a request to listen to a mount
 pub data ListenReply : Reply → Type 0 where
   IsOutOfPlace : ListenReply Stray
   HasFinished : (rule : Rule) → ListenReply (Finished rule)
@@ -111,7 +111,7 @@ IsIdle id (Draw him room) = him ≡ id
 IsIdle id (Title him text) = him ≡ id
 IsIdle id event = ⊥
 
--- how it may be replied who is no source and has no seat
+-- the replies to a client that is no source and has no seat
 pub data IdleReply (w : World) (id : ℕ) : Reply → Type 0 where
   IsStray : IdleReply w id Stray
   WasFinished : (rule : Rule) → IdleReply w id (Finished rule)
@@ -160,7 +160,7 @@ pub idle_reply : (w : World) (id : ℕ) (event : Event) → IsIdle id event → 
 unfolding reply_to
 idle_reply w id event i = idle_by w id event i (way_of w event)
 
--- how one may be replied who leaves
+-- the replies to a client that leaves
 pub data LeaveReply : Reply → Type 0 where
   WasNotThere : LeaveReply Stray
   HadFinished : (rule : Rule) → LeaveReply (Finished rule)
@@ -181,7 +181,7 @@ pub leave_reply : (w : World) (id : ℕ) → LeaveReply (reply_to w (Leave id))
 unfolding reply_to
 leave_reply w id = leave_by w id (outcome w (Leave id)) (way_of w (Leave id))
 
--- how one may be replied who brings a block
+-- the replies to a client that delivers a block
 pub data PushReply (w : World) (id : ℕ) : Reply → Type 0 where
   PushIsStray : PushReply w id Stray
   PushIsLast : (rule : Rule) → PushReply w id (Finished rule)

@@ -1,4 +1,4 @@
--- How far a client's connection has come that is served event by event, and what comes next.
+-- The stages of a client's connection that is served event by event, and the events that may follow.
 use Rattle.std.proofs.Common.{◌≡◌, ◌⊎◌, inl, inr, ℕ, true, false, List, [], ◌∷◌, ◌++◌, drop, Option, Some, Ok, refl, sym, ap, subst, ◌∙◌, append_assoc}
 use Rattle.std.specs.Prelude.{codes, option_map}
 use Rattle.std.specs.Str.{bytes_eq}
@@ -127,7 +127,7 @@ module _ (web : WebAnswers) (peer : Peer) (id : ℕ) where
   nothing_asked s a =
       subst (Each AsksNothing) (sym a.arrived) ((λ x. x), each_as (IsIdling id) AsksNothing (λ e h. idle_asks_nothing id e.event h) a.idle a.idles)
 
-  -- whose request it was
+  -- the arrival of this connection is of this client
   pub same_arrival : (log others : List Entry) (him : ℕ) (from : Peer) (rest : List Entry) → log ≡ arrival peer id ∷ others → log ≡ arrival from him ∷ rest → him ≡ id
   same_arrival log others him from rest arrived e =
       let both : arrival from him ∷ rest ≡ arrival peer id ∷ others = sym e ∙ arrived in

@@ -107,7 +107,7 @@ source_not bytes log f =
           ((λ l. l), each_as (IsNoRequest f.id) UpNot (λ e h. his_up_not f.id e.event (behind_is_his f.id e.event h)) f.behind f.no_more),
     )
 
--- where a relay has come up, its master's answer was read
+-- if a relay has come up, its master's answer was read
 module _ (web : WebAnswers) (bytes : List ℕ) (log : List Entry) (given : List ℕ) (before behind : List Entry) (e : Entry) (parts : log ≡ before ++ e ∷ behind)
     (up : IsUp e.event) where
   never : {A : Type 0} → Each UpNot log → A
@@ -148,7 +148,7 @@ is_first (x ∷ before) cs ds e a h l later =
     let others : before ++ e ∷ cs ≡ ds = cc in
     absurd (none_there IsUp before cs e (subst (Each UpNot) (sym others) later) l)
 
--- whose events are behind it
+-- the events behind it are of this relay
 own_his : (number : ℕ) (log : List Entry) → OwnRelay (Some number) log → Each (λ e. IsNoUp e.event) log → Each (IsNoRequest number) log
 own_his number [] own plain = tt
 own_his number (e ∷ log) own plain =

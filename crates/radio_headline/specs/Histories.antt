@@ -27,7 +27,7 @@ draws_noted (e ∷ history) id = of_client e.event id (draws_of (e.reply ∷ [])
 
 -- each reply that was noted is that of a step from the state after the entries before it, and lawful. The data in the noted draws of a
 -- listener are slices, joined in order, one for each of its sittings. Each slice is of what the source of its session delivered, or
--- is empty if it waited for a session. The split between two slices is where it sat down
+-- is empty if it waited for a session. The split between two slices is the moment at which it sat down
 pub record IsLawfulHistory (settings : Settings) (lists : Lists) (history : List Entry) : Type 0 where
   pub replies : (before after : List Entry) (entry : Entry) → history ≡ before ++ entry ∷ after
       → entry.reply ≡ reply_to (run_after settings lists (events_noted before)) entry.event

@@ -41,8 +41,8 @@ abbrev pub draws_to : World → List Event → ℕ → List Call
 draws_to w [] id = []
 draws_to w (event ∷ events) id = of_client event id (draws_of (reply_to w event ∷ [])) ++ draws_to (world_after w event) events id
 
--- the data in the draws of a listener are slices joined in order, one for each of its sittings. Each is of what the source of its session
--- delivered, from where it sat down
+-- The data in the draws of a listener are slices joined in order, one for each of its sittings. Each slice is of what the source
+-- of its session delivered, from the place at which the listener sat down.
 abbrev pub DrawsAreStretches : Settings → Lists → List Event → ℕ → Type 0
 DrawsAreStretches settings lists events id =
     let w = opening settings lists in
@@ -52,8 +52,9 @@ DrawsAreStretches settings lists events id =
 abbrev pub draw_to : ℕ → World → Event → List Call
 draw_to id w event = of_client event id (draws_of (reply_to w event ∷ []))
 
--- the draws are cut where the listener sits down. The data of the draws from one sitting to the next, or to the end, are one slice. The
--- source of its session delivered it. The draws before the first sitting have no data. Joined in order, the parts are all its draws
+-- The draws are split at each moment at which the listener sits down. The data of the draws from one sitting to the next, or to
+-- the end, are one slice. The source of its session delivered it. The draws before the first sitting have no data. Joined in
+-- order, the parts are all its draws.
 abbrev pub DrawsAreCut : Settings → Lists → List Event → ℕ → Type 0
 DrawsAreCut settings lists events id =
     let w = opening settings lists in
@@ -63,19 +64,20 @@ DrawsAreCut settings lists events id =
 
 -- Over a course, whose connections brought these bytes.
 module _ (settings : Settings) (lists : Lists) (brought : ℕ → List ℕ) (course : List Happening) where
-  -- the server, when this has happened
+  -- the server after these happenings
   abbrev pub server_after : List Happening → World
   server_after past = run_after settings lists (events_in past)
 
-  -- it sits down in the session of a source, or where one is awaited
+  -- the listener sits down in the session of a source, or in one that waits for a source
   abbrev pub SitsWithASource : Sitting → Type 0
   SitsWithASource sitting = (shown : Shown) × HasItsSource settings lists brought course sitting.mount sitting.source shown
 
-  -- by what the settings say of answers
+  -- for these settings of answers
   module _ (web : WebAnswers) where
-    -- it is seated in the session of a source, or where one is awaited, and reads a head that shows what that session shows. Then come its
-    -- draws, woven as one stream at the interval that the head names, or their data alone if it names none. These data are slices, one for
-    -- each time that it sat down. Each time it sat with a source, or without data where one was awaited
+    -- The listener is seated in the session of a source, or in one that waits for a source. It reads a head that shows what that
+    -- session shows. Then come its draws, woven as one stream at the interval that the head names, or their data alone if it
+    -- names none. These data are slices, one for each time that it sat down. Each time it sat with a source, or without data
+    -- while it waited for one.
     pub record IsHearing (w : World) (asked : ListenRequest) (interval : Option ℕ) (head : StreamHead) (bytes : List ℕ) : Type 0 where
       pub is_seated : IsSeated w (Listen asked) interval head
       pub shows_his_source :
@@ -91,29 +93,31 @@ module _ (settings : Settings) (lists : Lists) (brought : ℕ → List ℕ) (cou
       pub are_cut : DrawsAreCut settings lists (events_in course) asked.id
       pub sits_with_sources : AllByRecursion SitsWithASource (sittings (opening settings lists) (events_in course) asked.id)
 
-    -- all that a client reads that asked so, by the reply
+    -- all that the client of this request reads, by the reply
     pub data IsGiven (w : World) (asked : ListenRequest) (bytes : List ℕ) : Reply → Type 0 where
-      -- the policy denies it, by the first rule that held then, which it reads
+      -- the policy denies the request; the client reads the first rule that held then
       IsDenied : (rule : Rule) → Denies (rows_for w (Listen asked)) rule → bytes ≡ denial web rule → IsGiven w asked bytes (Deny rule)
-      -- it asked for a path of the web site
+      -- the client asked for a path of the web site
       IsShown : (text : ShownText) → bytes ≡ text_answer web text → IsGiven w asked bytes (Text text)
       Hears : (interval : Option ℕ) (head : StreamHead) → IsHearing w asked interval head bytes → IsGiven w asked bytes (Seated interval head)
-      -- it was finished before it had asked
+      -- the client was finished before it had asked
       IsTooLate : (rule : Rule) → bytes ≡ [] → IsGiven w asked bytes (Finished rule)
 
-    -- a client asks so on the connection of the label, after these happenings. Its bytes are read as that request, and it reads this answer
+    -- A client asks to listen on the connection of the label, after these happenings. Its bytes are read as that request, and it
+    -- reads this answer.
     pub record ListenerIsAnswered (given : ℕ → List ℕ) (label : ℕ) (asked : ListenRequest) (past : List Happening) : Type 0 where
       pub is_request : IsRequest (brought label) asked.id (Listen asked) []
       pub is_given : IsGiven (server_after past) asked (given label) (reply_to (server_after past) (Listen asked))
 
-    -- a client gives a command so. It reads the command's answer, or the first rule that then denied it
+    -- A client gives this command. It reads the command's answer, or the first rule that then denied it.
     pub record CommandIsAnswered (given : ℕ → List ℕ) (label : ℕ) (asked : CommandRequest) (past : List Happening) : Type 0 where
       pub denied : (rule : Rule) → reply_to (server_after past) (Command asked) ≡ Deny rule
           → Denies (rows_for (server_after past) (Command asked)) rule × (given label ≡ denial web rule)
       pub told : (text : ShownText) → reply_to (server_after past) (Command asked) ≡ Text text → given label ≡ text_answer web text
 
-    -- a client asks to feed a mount so, and its bytes are read as that request. If the policy denies it, it reads the first rule that held
-    -- then, and nothing else. If it is admitted, it first reads that, or that it may go on if it had asked for that (RFC 9110, section 10.1.1)
+    -- A client asks to feed a mount, and its bytes are read as that request. If the policy denies it, it reads the first rule
+    -- that held then, and nothing else. If it is admitted, it first reads that it is, or `100 Continue` if it waits for that (RFC
+    -- 9110, section 10.1.1).
     pub record SourceIsAnswered (given : ℕ → List ℕ) (label : ℕ) (asked : SourceRequest) (past : List Happening) : Type 0 where
       pub behind : List Event
       pub is_request : IsRequest (brought label) asked.id (Source asked) behind
@@ -121,7 +125,7 @@ module _ (settings : Settings) (lists : Lists) (brought : ℕ → List ℕ) (cou
           → Denies (rows_for (server_after past) (Source asked)) rule × (given label ≡ denial web rule)
       pub feeds : reply_to (server_after past) (Source asked) ≡ Feeding
           → (later : List ℕ) × (given label ≡ greeting_text web is_request.heard.conversation.says.greeting ++ later)
-      -- it was finished before it had asked
+      -- the client was finished before it had asked
       pub too_late : (rule : Rule) → reply_to (server_after past) (Source asked) ≡ Finished rule → given label ≡ []
 
     -- each client that asks to feed a mount
@@ -134,22 +138,22 @@ module _ (settings : Settings) (lists : Lists) (brought : ℕ → List ℕ) (cou
     CommandsAreAnswered given = (label : ℕ) (asked : CommandRequest) (past later : List Happening) → course ≡ past ++ on label (Command asked) ∷ later
         → CommandIsAnswered given label asked past
 
-    -- each client that asks to hear a mount
+    -- each client that asks to listen to a mount
     abbrev pub ListenersAreGiven : (ℕ → List ℕ) → Type 0
     ListenersAreGiven given = (label : ℕ) (asked : ListenRequest) (past later : List Happening) → course ≡ past ++ on label (Listen asked) ∷ later
         → ListenerIsAnswered given label asked past
 
--- The data of a source's body (RFC 9112, section 6), without their framing. They are all of a plain body, so many bytes of a sized one,
--- and those of the chunks of a chunked one. A body with a byte that no chunked body has there ends by that fault.
+-- The data of a source's body (RFC 9112, section 6), without their framing. They are all of a plain body, the length of a sized
+-- one, and those of the chunks of a chunked one. A body with a byte that no chunked body has there ends by that fault.
 pub record BodiesAreHeard : Type 0 where
   pub plain : PlainBodiesAreHeard
   pub sized : SizedBodiesAreHeard
   pub chunked : ChunkedBodiesAreHeard
   pub faulty : FaultyBodiesAreHeard
 
--- Over a course of these settings and lists, on whose connections these bytes were brought and those given: each event is lawful. Its
--- sources deliver a front of the data of their bodies, and its relays of the sound that they pull in. Each client that asks to hear a
--- mount reads slices of these, or why not.
+-- A course of these settings and lists, on whose connections these bytes were brought and those were given. Each event is lawful.
+-- The sources deliver a front of the data of their bodies, and the relays a front of the sound that they pull in. Each client
+-- that asks to listen to a mount reads slices of these data, or the reason why it does not.
 pub record CourseHearsSlices (web : WebAnswers) (settings : Settings) (lists : Lists) (course : List Happening) (brought given : ℕ → List ℕ) : Type 0 where
   pub lawful : (past later : List Happening) (happening : Happening) → course ≡ past ++ happening ∷ later
       → IsLawful settings lists (events_in past) happening.event

@@ -61,7 +61,8 @@ pub record DeliversItsSound (settings : Settings) (lists : Lists) (brought : ℕ
   pub undelivered : List ℕ
   pub is_front : sound_of_parts parts ≡ delivered (opening settings lists) (events_in course) number ++ undelivered
 
--- The number 0 is nobody's, and nothing is delivered under it. While a listener waits for a session it sits in one of this number, without data.
+-- The number 0 is no client's, and nothing is delivered under it. While a listener waits for a session it sits in one of this
+-- number, without data.
 abbrev pub NobodyDelivers : Settings → Lists → List Event → Type 0
 NobodyDelivers settings lists events = delivered (opening settings lists) events 0 ≡ []
 

@@ -39,7 +39,7 @@ pub fn draws_are_stretches()
     ensures slices { (settings : Settings) (lists : Lists) (events : List Event) (id : ℕ) → DrawsAreStretches settings lists events id }
     // they are cut at the sittings: from one sitting to the next, or to the end, they are one slice
     ensures cut { (settings : Settings) (lists : Lists) (events : List Event) (id : ℕ) → DrawsAreCut settings lists events id }
-    // under the number of nobody, in whose session a listener that waits for one sits, nothing is delivered
+    // under the number 0, in whose session a listener that waits for one sits, nothing is delivered
     ensures nobody { (settings : Settings) (lists : Lists) (events : List Event) → NobodyDelivers settings lists events }
 {
     stretches_are_whole();

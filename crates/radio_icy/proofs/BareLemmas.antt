@@ -103,7 +103,7 @@ heard_first n out more =
     ∙ ap (λ (t : List ℕ). map (λ b. SoundByte b) (take n out) ++ (as_atoms (text_of_block t) ++ atoms_of_piece (at_sound n n) (after_block t)))
     (sym (drop_more out n 0 more)))
 
--- the sound that is heard in a stream with at most k blocks
+-- the sound that is read in a stream with at most k blocks
 pub sound_in-atoms_of_piece : (k n : ℕ) (out : List ℕ) → length out ≤ k → sound_in (atoms_of_piece (at_sound n n) out) ≡ bare_within k n out
 sound_in-atoms_of_piece zero n out fits = let none : out ≡ [] = nil_from_length out (omega arith) in rw none refl
 sound_in-atoms_of_piece (suc k) n out fits =
@@ -123,7 +123,7 @@ sound_in-atoms_of_piece (suc k) n out fits =
     rw (le-leb (length out) n short) (ap sound_in (heard_all_sound n n out short) ∙ sound_in-map out))
     (cases_lt n (length out))
 
--- the texts that are heard in it
+-- the texts that are read in a stream with at most k blocks
 pub texts_in-atoms_of_piece : (k n : ℕ) (out : List ℕ) → length out ≤ k → texts_in (atoms_of_piece (at_sound n n) out) ≡ block_texts_within k n out
 texts_in-atoms_of_piece zero n out fits = let none : out ≡ [] = nil_from_length out (omega arith) in rw none refl
 texts_in-atoms_of_piece (suc k) n out fits =
@@ -143,7 +143,7 @@ texts_in-atoms_of_piece (suc k) n out fits =
     rw (le-leb (length out) n short) (ap texts_in (heard_all_sound n n out short) ∙ texts_in-map out))
     (cases_lt n (length out))
 
--- what is heard in a stream from its start
+-- what is read in a stream from its start
 pub sound_in-is-bare : (n : ℕ) (out : List ℕ) → sound_in (atoms_of_piece (new_unweaving n) out) ≡ bare n out
 unfolding bare
 sound_in-is-bare n out = sound_in-atoms_of_piece (length out) n out (omega arith)

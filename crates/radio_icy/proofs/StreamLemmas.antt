@@ -1,4 +1,4 @@
--- What comes of a list of calls is the woven stream: byte by byte with the title of each byte, then interval by interval.
+-- What is woven of a list of calls is the woven stream: byte by byte with the title of each byte, then interval by interval.
 use Rattle.std.proofs.Common.{◌≡◌, ℕ, zero, suc, ◌+◌, ◌-◌, ◌*◌, ◌<◌, ◌≤◌, List, [], ◌∷◌, ◌++◌, length, map, take, drop, get_or, Option, None, refl, arith, ap}
 use Rattle.std.proofs.Common.{◌∙◌, sym, append_assoc}
 use Rattle.std.proofs.lemmas.Bool.{lt-ltb, le-ltb}
@@ -8,7 +8,7 @@ use Rattle.radio_icy.specs.Weaving.{Weaving, Call, new_weaving, woven, after_wea
 use Rattle.radio_icy.specs.Stream.{sound_of_calls, titles_of_calls, title_at, sent_before, woven_parts, interval_count, IsWoven, interval_sound}
 use Rattle.radio_icy.proofs.WeavingLemmas.{at_block, moved}
 
--- what comes of sound where each byte has a title of its own
+-- the woven bytes of sound in which each byte has a title of its own
 abbrev pub woven_titled : Weaving → List ℕ → List (Option (List ℕ)) → List ℕ
 woven_titled w [] titles = []
 woven_titled w (b ∷ sound) [] = []
@@ -36,7 +36,7 @@ length-titles_of_calls (c ∷ calls) =
     length-append (map (λ _. c.title) c.sound) (titles_of_calls calls)
     ∙ omega (arith, length-map c.sound (λ _. c.title), length-titles_of_calls calls, length-append c.sound (sound_of_calls calls))
 
--- the rest of an interval with its block: the last of its bytes stands at the place `last`
+-- the rest of an interval with its block; `last` is the place of its last byte
 interval_from : (last : ℕ) (w : Weaving) (sound : List ℕ) (titles : List (Option (List ℕ))) → w.place + suc last ≡ w.interval → last < length sound
     → last < length titles → woven_titled w sound titles
     ≡ take (suc last) sound
@@ -92,7 +92,7 @@ woven_by_parts n calls (suc k) some fits =
     ∙ (ap (λ t. next (title_at n calls k) (drop (n * suc k) sound) t) (drop-drop n (n * k) titles ∙ ap (λ (m : ℕ). drop m titles) (sym size))
     ∙ simp append_assoc))))
 
--- what comes of a list of calls, from the start of a stream, is woven
+-- the woven bytes of a list of calls, from the start of a stream
 pub IsWoven-woven_by_calls : (n : ℕ) (calls : List Call) → 0 < n → IsWoven n calls (woven_by_calls (new_weaving n) calls)
 IsWoven-woven_by_calls n calls some =
     let k = interval_count n calls in

@@ -10,7 +10,7 @@ use Rattle.std.proofs.lemmas.Bool.{and_parts, or_cases, both_ways, not-true, eqb
 use Rattle.radio_icy.specs.Block.{title_text}
 use Rattle.radio_icy.specs.Titles.{before_title_end, ends_title, title_of, HasNoUrlInside, IsTitleIn}
 
--- the search from a place where no title ends goes on at the next
+-- a search goes on at the next byte if no title ends at this one
 option_map-after : (f : List ℕ) (b : ℕ) (o : Option (List ℕ)) → option_map (λ t. f ++ t) (option_map (λ t. b ∷ t) o) ≡ option_map (λ t. (f ++ b ∷ []) ++ t) o
 option_map-after f b None = refl
 option_map-after f b (Some t) = ap (λ u. Some u) (sym (append_assoc f (b ∷ []) t))
@@ -169,7 +169,7 @@ bytes_eq-same (x ∷ xs) (y ∷ ys) h =
     let p = and_parts (eqb x y) (bytes_eq xs ys) h in
     ap (λ (b : ℕ). b ∷ xs) (eqb-true x y p.0) ∙ ap (λ u. y ∷ u) (bytes_eq-same xs ys p.1)
 
--- a text begins with what stands before titles, or has none
+-- a text with a title begins with `StreamTitle='`
 begun : (text title : List ℕ) → cond (bytes_eq (codes "StreamTitle='") (take 13 text)) (before_title_end (drop 13 text)) None ≡ Some title
     → (text ≡ codes "StreamTitle='" ++ drop 13 text) × (before_title_end (drop 13 text) ≡ Some title)
 begun text title h =

@@ -132,7 +132,7 @@ pub after_to_none : (n left : ℕ) (sound later : List ℕ) → left ≡ length 
     → after_feeding (at_sound n left) (sound ++ 0 ∷ later) ≡ after_feeding (at_sound n n) later
 after_to_none n left sound later whole = after_sound n left 0 sound (0 ∷ later) (omega arith)
 
--- what was heard and what is still to be heard, after one turn of the loop over intervals
+-- the items so far and those of the rest, after one turn of the loop over intervals
 pub turn_to_text : (items sound new new' rest later total : List StreamItem) (text : StreamItem) → new ≡ items ++ sound → new' ≡ new ++ text ∷ []
     → rest ≡ sound ++ text ∷ later → items ++ rest ≡ total → new' ++ later ≡ total
 turn_to_text items sound new new' rest later total text first second turn whole = rw (second, first, ← whole, turn) (simp append_assoc)
@@ -143,7 +143,7 @@ turn_to_none items sound new rest later total first turn whole = rw (first, ← 
 pub turn_to_end : (items sound new rest total : List StreamItem) → new ≡ items ++ sound → rest ≡ sound → items ++ rest ≡ total → new ≡ total
 turn_to_end items sound new rest total first turn whole = rw (first, ← whole, turn) refl
 
--- a copy is there where the text is
+-- there is a copy if there is a text
 pub begun_kept : {X : Type 0} (P : Type 0) (f : X → List ℕ) (copy : Option X) (text : Option (Bor (List ℕ))) → option_map f copy ≡ option_copied text
     → IfSome text (λ _. P) → MatchOption copy ⊤ (λ _. P)
 begun_kept P f None text same h = tt

@@ -87,7 +87,7 @@ heard_parts n calls (suc k) more fits =
     ∙ (heard_parts n calls k (part ++ (metadata_block news ++ more)) (omega arith)
     ∙ (ap (λ t. atoms_of_parts n calls k ++ t) (heard_part_and_block n news part more whole) ∙ simp append_assoc))
 
--- all that is heard in a woven stream
+-- all that is read in a woven stream
 heard_woven : (n : ℕ) (calls : List Call) (out : List ℕ) → 0 < n → IsWoven n calls out
     → atoms_of_piece (new_unweaving n) out ≡ atoms_of_parts n calls (interval_count n calls) ++ map (λ b. SoundByte b) (rest_of n calls)
 heard_woven n calls out some woven =
@@ -132,7 +132,7 @@ texts_in-parts n calls (suc k) =
     ∙ (ap (λ t. map title_text (titles_sent n calls k) ++ t) (texts_in-text_atoms (news_at n calls k))
     ∙ sym (map-append title_text (titles_sent n calls k) sent)))))
 
--- the sound and the texts that are heard in a woven stream
+-- the sound and the texts that are read in a woven stream
 pub sound_in-woven : (n : ℕ) (calls : List Call) (out : List ℕ) → 0 < n → IsWoven n calls out → sound_in (atoms_of_piece (new_unweaving n) out) ≡ sound_of_calls calls
 sound_in-woven n calls out some woven =
     let k = interval_count n calls in
@@ -151,7 +151,7 @@ texts_in-woven n calls out some woven =
     ∙ (ap (λ t. t ++ texts_in (map (λ b. SoundByte b) (rest_of n calls))) (texts_in-parts n calls k)
     ∙ (ap (λ t. map title_text (titles_sent n calls k) ++ t) (texts_in-map (rest_of n calls)) ∙ append-nil (map title_text (titles_sent n calls k)))))
 
--- where no call has a title, no byte has one
+-- if no call has a title, no byte has one
 untitled_bytes : (sound : List ℕ) (title : Option (List ℕ)) (titles : List (Option (List ℕ))) (i : ℕ) → title ≡ None
     → ((j : ℕ) → get_or titles j None ≡ None) → get_or (map (λ _. title) sound ++ titles) i None ≡ None
 untitled_bytes [] title titles i none later = later i

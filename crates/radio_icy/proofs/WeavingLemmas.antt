@@ -85,7 +85,7 @@ woven_news w v title news (b ∷ sound) i p n =
     ∙ sym (woven_at_end v news b sound (omega arith)))))
     (cases_lt (w.place + 1) w.interval)
 
--- where a weaver stands does not depend on titles
+-- a weaver's place does not depend on titles
 pub place_same : (w v : Weaving) (title news : Option (List ℕ)) (sound : List ℕ) → w.interval ≡ v.interval → w.place ≡ v.place
     → (after_weaving w title sound).place ≡ (after_weaving v news sound).place
 place_same w v title news [] i p = p
@@ -114,7 +114,7 @@ place_below w title (b ∷ sound) inside =
     (λ (h : w.interval ≤ w.place + 1). rw (after_at_end w title b sound h) (place_below (at_block w title) title sound (omega arith)))
     (cases_lt (w.place + 1) w.interval)
 
--- the last title sent stays, where the present title is no news
+-- the last title sent stays, if the present title is no news
 sent_stays : (w : Weaving) (title : Option (List ℕ)) (sound : List ℕ) → news_of title w.sent ≡ None → (after_weaving w title sound).sent ≡ w.sent
 sent_stays w title [] n = refl
 sent_stays w title (b ∷ sound) n =

@@ -43,7 +43,7 @@ interval_count n calls = length (sound_of_calls calls) / n
 abbrev pub rest_of : ℕ → List Call → List ℕ
 rest_of n calls = drop (n * interval_count n calls) (sound_of_calls calls)
 
--- `out` is what is to come of these calls in a stream with the interval n
+-- `out` is the woven stream of these calls, with the interval n
 -- rule: Metadata count
 abbrev pub IsWoven : ℕ → List Call → List ℕ → Type 0
 IsWoven n calls out = out ≡ woven_parts n calls (interval_count n calls) ++ rest_of n calls

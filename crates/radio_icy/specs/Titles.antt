@@ -9,7 +9,7 @@ ends_title text =
     starts_with nat_eq text (codes "';")
     && (length (drop 2 text) == 0 || starts_with nat_eq (drop 2 text) (codes "StreamUrl="))
 
--- what is before the first place where a title ends
+-- the bytes before the first end of a title
 abbrev pub before_title_end : List ℕ → Option (List ℕ)
 before_title_end [] = None
 before_title_end (b ∷ text) =
@@ -25,7 +25,7 @@ title_of text =
 abbrev pub HasNoUrlInside : List ℕ → Type 0
 HasNoUrlInside title = (before after : List ℕ) → title ≡ before ++ (codes "';StreamUrl=" ++ after) → ⊥
 
--- The title is in the text between `StreamTitle='` and a place where a title ends, and no title ends before it.
+-- The title is in the text between `StreamTitle='` and an end of a title. No title ends before that.
 -- rule: Title of a block
 pub record IsTitleIn (text title : List ℕ) : Type 0 where
   pub rest : List ℕ

@@ -33,7 +33,7 @@ new_unweaving n = at_sound n n
 unfoldable pub without_padding : List ℕ → List ℕ
 without_padding text = take (length text - suffix_len (λ b. b == 0) text) text
 
--- past a length byte: to sound again, where the block is empty
+-- after a length byte: back to sound, if the block is empty
 abbrev pub after_length_byte : ℕ → ℕ → Unweaving
 after_length_byte n q = if q == 0 then at_sound n n else in_block n (16 * q) []
 

@@ -9,10 +9,10 @@ use crate::{MAX_TITLE, OutOfMemory};
 /// The bytes that a length byte counts in.
 pub const UNIT: usize = 16;
 
-/// What comes before the title in a block's text.
+/// The bytes before the title in a block's text.
 pub const BEFORE_TITLE: &[u8] = b"StreamTitle='";
 
-/// What comes after it.
+/// The bytes after the title.
 pub const AFTER_TITLE: &[u8] = b"';";
 
 const PADDING: [u8; UNIT] = [0; UNIT];

@@ -22,8 +22,8 @@ pub fn woven_streams()
         → AreUntitled calls → metadata_block (news_at n calls k) ≡ 0 ∷ [] }
 {}
 
-/// However sound is cut into calls under one title, the same is written, and calls after other calls go on where those
-/// ended: from any state of a weaver.
+/// However sound is cut into calls under one title, the same is written. From any state of a weaver, later calls go
+/// on at the place at which earlier ones ended.
 // rule: Metadata count
 pub fn joined_weaving()
     ensures sound { (w : Weaving) (title : Option (List ℕ)) (a : List ℕ) (b : List ℕ)
@@ -44,7 +44,7 @@ pub fn bare_streams()
         → n < length out → bare n out ≡ take n out ++ bare n (after_block (drop n out)) }
 {}
 
-/// The bare sound of what was woven is the sound that went in, and the texts of its blocks are those of the titles
+/// Taken out of a woven stream, the sound is the sound that went in. The texts of the blocks are those of the titles
 /// that were sent.
 // rule: Metadata block
 pub fn bare_of_woven()
@@ -80,7 +80,7 @@ pub fn titles_of_texts()
         → HasNoUrlInside title → title_of (title_text title ++ (codes "StreamUrl=" ++ url)) ≡ Some title }
 {}
 
-/// A text has a title exactly if it is between `StreamTitle='` and the first place where a title ends.
+/// A text has a title exactly if the title is between `StreamTitle='` and the first end of a title.
 // rule: Title of a block
 pub fn titles_in_texts()
     ensures { (text : List ℕ) (title : List ℕ) → (title_of text ≡ Some title) ↔ IsTitleIn text title }

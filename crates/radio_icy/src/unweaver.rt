@@ -113,7 +113,7 @@ impl Unweaver {
     }
 }
 
-/// Where a piece of a stream ends: the bytes to come, and those of a block that has begun.
+/// The end of a piece of a stream: the bytes still to come, and those of a block that has begun.
 struct Rest<'b> {
     left: usize,
     block: Option<&'b [u8]>,

@@ -94,7 +94,7 @@ impl Weaver {
         self.weave_blocks(sound, title, out)
     }
 
-    // The same, where a block is due: only then is the title looked at. All room that is needed is asked for first.
+    // The same if a block is due. Only then is the title read. All room that is needed is reserved first.
     // rule: Metadata count
     fn weave_blocks(
         &mut self,

@@ -1,4 +1,4 @@
--- Who has left or was finished, and what the clock ends.
+-- Which clients have left or were finished, and what the clock ends.
 -- Read StationSteps first, then GoneLemmas and TickOrder.
 pub mod StationSteps
 pub mod GoneLemmas

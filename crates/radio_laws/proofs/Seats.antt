@@ -1,4 +1,4 @@
--- Who sits where: walks, moves, limits and access.
+-- Listeners' seats: walks, moves, limits and access.
 -- Read TableSteps first, then RowSteps and WalkLemmas.
 pub mod TableSteps
 pub mod RowSteps

@@ -41,7 +41,7 @@ pub record IsSeated (w : World) (event : Event) (interval : Option ℕ) (head : 
   pub is_heard : heard_at w.station session.mount ≡ Some session
   pub is_awaited : session_of w.station.live session.mount ≡ None → IsFedOnDemand w.station.settings session.mount
   pub shows : head.shown ≡ session.shown
-  -- as those may read it whom the settings allow
+  -- the head names the origin whose pages may read it, as the settings have it
   pub readers : head.allow_origin ≡ w.station.settings.web.allow_origin
   pub seat : Seat
   pub has_the_seat : seat_of (world_after w event).seats asked.id ≡ Some seat
@@ -63,6 +63,6 @@ pub record IsSeated (w : World) (event : Event) (interval : Option ℕ) (head : 
   pub without_metadata : asked.wants_metadata ≡ false → interval ≡ None
   pub starts : IsEarliestStart session.stream (options_for w.station.settings seat.mount).stream.burst_size w.station.settings.limits.queue_size seat.place
 
--- only a client that asks to hear a mount is seated, and it begins where its burst begins
+-- only a client that asks to listen to a mount is seated, and its place is the start of its burst
 abbrev pub BeginsAtABlock : World → Event → Type 0
 BeginsAtABlock w event = (interval : Option ℕ) (head : StreamHead) → reply_to w event ≡ Seated interval head → IsSeated w event interval head

@@ -1,4 +1,4 @@
--- Who may give a command, what it does, and what it leaves as it is.
+-- Which clients may give a command, what it does, and what it leaves as it is.
 use Rattle.std.specs.Prelude.{◌≡◌, ◌⊎◌, ◌↔◌, ℕ, ◌+◌, true, false, List, [], Option, Some, None}
 use Rattle.std.specs.Str.{bytes_eq}
 use Rattle.radio_policy.specs.declared.rule.Rule.TheVariants.{Killed, SourceKilled, ListenerPassword}

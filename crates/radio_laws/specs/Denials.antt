@@ -29,7 +29,7 @@ use Rattle.radio_parts.specs.Ways.{rows_for, IsUndecided}
 use Rattle.radio_parts_station.specs.World.{World, standing_of}
 use Rattle.radio_laws.specs.Shown.{IsPath}
 
--- the state as it was, but that the client who asked, if it had asked for nothing before, has had its answer
+-- The state as it was, except that the client that asked has had its answer, if it had asked for nothing before.
 pub record IsOnlyAnswered (w later : World) (client : Option ℕ) : Type 0 where
   pub time : later.station.time ≡ w.station.time
   pub settings : later.station.settings ≡ w.station.settings
@@ -59,7 +59,7 @@ pub data AsksThePolicy (w : World) : Event → Type 0 where
   ToCommand : (asked : CommandRequest) → IsUndecided w asked.id → AsksThePolicy w (Command asked)
   ToComeUp : (mount : List ℕ) (shown : Shown) → AsksThePolicy w (RelayUp mount shown)
 
--- the policy is obeyed where it denies: the reply denies by the first rule whose condition holds
+-- the policy is obeyed if it denies: the reply denies by the first rule whose condition holds
 abbrev pub ThePolicyDenies : World → Event → Type 0
 ThePolicyDenies w event = AsksThePolicy w event → (rule : Rule) → Denies (rows_for w event) rule → reply_to w event ≡ Deny rule
 

@@ -1,4 +1,4 @@
--- Where a listener is denied by a limit, by the mount at which its walk was stopped.
+-- When a limit denies a listener, by the mount at which its walk was stopped.
 use Rattle.std.specs.Prelude.{◌≡◌, ℕ, ◌<◌, ◌≤◌, false, List, length, Option}
 use Rattle.radio_creds.specs.Credentials.{Credentials}
 use Rattle.radio_policy.specs.declared.rule.Rule.TheVariants.{TooManyClients, TooManySources, MountFull, UserTwice, FallbackDepth}
@@ -15,7 +15,7 @@ use Rattle.radio_parts_station.specs.World.{World}
 use Rattle.radio_laws.specs.Limits.{SentUser, IsFullAt, allows_duplicates_at}
 use Rattle.radio_laws.specs.Walks.{ComesBy}
 
--- each user may sit at the mount once, and one of those who sit there sent the very user of this pair
+-- each user may sit at the mount once, and a listener that sits there sent the very user of this pair
 -- rule: User twice
 pub record HasUserAt (w : World) (mount : List ℕ) (pair : Option Credentials) : Type 0 where
   pub once : allows_duplicates_at w mount ≡ false

@@ -1,4 +1,4 @@
--- How many may be there, how many may sit at a mount, and who may sit there once alone.
+-- How many clients and sources may be there, how many may sit at a mount, and which users may sit there only once.
 use Rattle.std.specs.Prelude.{◌≡◌, ℕ, ◌<◌, ◌≤◌, Bool, false, List, length, Option, Some}
 use Rattle.radio_creds.specs.Credentials.{Credentials}
 use Rattle.radio_settings_values.specs.Options.{options_for}
@@ -31,7 +31,7 @@ pub record SitsThereAs (w : World) (id : ℕ) (mount user : List ℕ) : Type 0 w
   pub at_the_mount : seat.mount ≡ mount
   pub his_user : SentUser user seat.pair
 
--- no more sit at a mount than may, and nobody sits twice where each may sit once
+-- no more sit at a mount than may, and no user sits twice at a mount that allows each user once
 -- rule: Mount full
 pub record IsWithinLimits (w : World) : Type 0 where
   pub not_too_many : (mount : List ℕ) (most : ℕ) → most_at w mount ≡ Some most → length (seats_at w.seats mount) ≤ most

@@ -24,7 +24,7 @@ use Rattle.radio_settings_values.specs.declared.web.WebPath.TheVariants.{Icecast
 
 -- In all that follows some mounts are within reach, and the others beyond it.
 
--- two sessions of one mount and one source, and where the mount is within reach, the same in all
+-- two sessions of one mount and one source; if the mount is within reach, they are the same
 pub data SessionsAgree (within : List ℕ → Bool) (a b : Session) : Type 0 where
   SameSession : a ≡ b → SessionsAgree within a b
   FedBeyond : a.mount ≡ b.mount → a.number ≡ b.number → within a.mount ≡ false → SessionsAgree within a b
@@ -50,7 +50,7 @@ IsAll within = (mount : List ℕ) → within mount ≡ true
 abbrev pub FallBackWithin : World → (List ℕ → Bool) → Type 0
 FallBackWithin w within = (mount next : List ℕ) → within mount ≡ true → FallsBack w mount next → within next ≡ true
 
--- the mount on which a source comes up, or a relay; where it calls its listeners home, they may sit at any
+-- the mount on which a source or a relay comes up; if it calls its listeners home, they may sit at any mount
 pub record ComesUpWithin (w : World) (within : List ℕ → Bool) (mount : List ℕ) : Type 0 where
   pub there : within mount ≡ true
   pub home : (options_for w.station.settings mount).listeners.fallback_override ≡ true → IsAll within
@@ -86,7 +86,7 @@ AsksWithin w within (Asks (SetFallback mount fallback)) = Unit {0}
 AsksWithin w within (Asks (AddUser mount user password)) = within mount ≡ true
 AsksWithin w within (Asks (DeleteUser mount user)) = within mount ≡ true
 
--- a client that asks to hear a mount walks from it. Icecast's status, if the client asks for it, shows all mounts
+-- a client that asks to listen to a mount walks from it. Icecast's status, if the client asks for it, shows all mounts
 pub record HearsWithin (w : World) (within : List ℕ → Bool) (path : List ℕ) : Type 0 where
   pub walks : WalksWithin w within path
   pub status : IsPath w path IcecastStatus → IsAll within
@@ -113,7 +113,7 @@ pub record IsWithinReach (w : World) (within : List ℕ → Bool) (event : Event
   pub reached : ReachesWithin w within event
   pub client : (id : ℕ) → client_in event ≡ Some id → LastWithin w within id
 
--- beyond reach each mount has the session that it had, and those sit there who sat there, each in its seat
+-- beyond reach each mount has the session that it had, and each listener has the seat that it had
 pub record IsLeftAlone (within : List ℕ → Bool) (w later : World) : Type 0 where
   pub sessions : (mount : List ℕ) → within mount ≡ false → session_of later.station.live mount ≡ session_of w.station.live mount
   pub seats : (id : ℕ) (seat : Seat) → within seat.mount ≡ false → (seat_of later.seats id ≡ Some seat) ↔ (seat_of w.seats id ≡ Some seat)

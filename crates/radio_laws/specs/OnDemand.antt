@@ -17,7 +17,8 @@ pub record IsFedOnDemand (settings : Settings) (mount : List ℕ) : Type 0 where
   pub its_mount : relay.local_mount ≡ mount
   pub on_demand : relay.on_demand ≡ true
 
--- a mount without a session waits for one only if a relay feeds it on demand, and does wait where all do that feed it
+-- A mount without a session waits for one only if a relay feeds it on demand. It does wait if all relays that feed it do so on
+-- demand.
 -- rule: Waiting mount
 pub record WaitsOnDemand (settings : Settings) (mount : List ℕ) : Type 0 where
   pub only : is_on_demand settings mount ≡ true → IsFedOnDemand settings mount
@@ -32,7 +33,7 @@ pub record IsSatAt (seats : List Listener) (mount : List ℕ) : Type 0 where
   pub sits : listener.seating ≡ Sits seat
   pub at_the_mount : seat.mount ≡ mount
 
--- wanted are the mounts where somebody sits that a relay feeds on demand, and no others
+-- the wanted mounts are those that a relay feeds on demand and at which somebody sits, and no others
 -- rule: Pulls on demand
 pub record WantedAreSatAt (w : World) : Type 0 where
   pub only : (mount : List ℕ) → Has mount (wanted w) → IsFedOnDemand w.station.settings mount × IsSatAt w.seats mount

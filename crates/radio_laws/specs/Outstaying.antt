@@ -14,7 +14,7 @@ use Rattle.radio_policy.specs.declared.rule.Rule.TheVariants.{HeaderTimeout, Tim
 use Rattle.radio_parts_station.specs.Waiting.{is_on_demand}
 use Rattle.radio_parts_station.specs.World.{World, standing_of}
 
--- at this moment no seat has had its time, no client who has asked for nothing, and no source that has sent nothing
+-- at this moment no seat has had its time, no client that has asked for nothing, and no source that has sent nothing
 -- rule: Time over
 pub record IsInTime (w : World) (ms : ℕ) : Type 0 where
   pub is_now : w.station.time ≡ ms
@@ -23,7 +23,7 @@ pub record IsInTime (w : World) (ms : ℕ) : Type 0 where
   pub sources : (mount : List ℕ) (session : Session) → session_of w.station.live mount ≡ Some session
       → is_silent w.station.settings.limits.source_timeout ms session ≡ false
 
--- who is ended at this moment, and by which rule. First each client that has asked for nothing in its time.
+-- Which clients end at this moment, and by which rule. First each client that has asked for nothing in its time.
 -- Then each listener that has sat as long as its home allows, also if its session ends as well.
 -- Then each source that has sent nothing in its time. With it end the listeners left at its mount, if that has no fallback and waits for
 -- no other session. If a relay feeds the mount on demand, they wait there

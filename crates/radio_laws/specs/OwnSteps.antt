@@ -1,4 +1,4 @@
--- A mount's part steps by itself as the server does: a draw of one who sits there, a block and a title of its source.
+-- A mount's part steps by itself as the server does: a draw of a listener that sits there, a block and a title of its source.
 use Rattle.std.specs.Prelude.{◌≡◌, ℕ, Some, find}
 use Rattle.std.specs.Option.{option_map}
 use Rattle.std.specs.Str.{bytes_eq}
@@ -23,7 +23,7 @@ use Rattle.radio_laws.specs.Parts.{seat_at}
 pub record PartStands (w : World) (p : MountPart) : Type 0 where
   -- the mount's session, with what is kept of its stream
   pub session : p.session ≡ option_map (kept_session w.station.settings.limits.queue_size) (session_of w.station.live p.mount)
-  -- attached is each who sits there, at the place of its seat, and nobody else
+  -- attached is each listener at the mount, at the place of its seat, and nobody else
   pub attached : (id : ℕ) → place_in (find (is_attached id) p.attachments) ≡ option_map (λ (seat : Seat). seat.place) (seat_at p.mount w.seats id)
   pub once : AreInOrder p.attachments
 

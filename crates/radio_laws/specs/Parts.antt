@@ -51,7 +51,7 @@ pub record DrawsByItsPart (w : World) (p : Part) (id room : ℕ) : Type 0 where
   pub step : (place : ℕ) → (part_draws (as_heard w.station p) id room).change ≡ Advance id place
       → IsPartsStep w (world_after w (Draw id room)) p (part_with_place p id place)
 
--- a draw of one who sits there
+-- a draw of a listener that sits there
 abbrev pub PartsDraw : World → Type 0
 PartsDraw w = (p : Part) (id room : ℕ) (seat : Seat) → IsPartOf w p → seat_at p.mount p.listeners id ≡ Some seat → DrawsByItsPart w p id room
 

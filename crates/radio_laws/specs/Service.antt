@@ -24,7 +24,7 @@ use Rattle.radio_values.specs.declared.field.Shown.{Shown}
 use Rattle.radio_laws.specs.Walks.{ComesBy}
 use Rattle.radio_parts_station.specs.Waiting.{heard_at}
 
--- a listener was seated in the session of a mount of its walk, or where one is awaited, and got the session's head
+-- A listener was seated in the session of a mount of its walk, or at a mount that waits for one. It got the session's head.
 pub record IsSeatedByWalk (w : World) (asked : ListenRequest) : Type 0 where
   pub session : Session
   pub steps : ℕ

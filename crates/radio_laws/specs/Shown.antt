@@ -1,4 +1,4 @@
--- What of the station a client is shown, and to whom it is shown.
+-- What of the station a client is shown, and to which clients.
 use Rattle.std.specs.Prelude.{◌≡◌, ◌⊎◌, true, codes, ◌↔◌, ◌≤◌, ◌<◌, ℕ, ◌+◌, ◌-◌, ◌*◌, Bool, not, List, [], ◌∷◌, ◌++◌, length, map, filter, flat_map, Option, Some, None, unwrap_or}
 use Rattle.std.specs.Str.Lossy.{utf8_lossy}
 use Rattle.radio_addr.specs.declared.peer.Peer.{Peer}
@@ -42,7 +42,7 @@ use Rattle.radio_parts_station.specs.World.{World, standing_of}
 use Rattle.radio_laws.specs.Commanded.{IsTheAdmins, IsLive}
 use Rattle.radio_laws.specs.Walks.{FallsBack}
 
--- the user and the password of relays, byte for byte, where they have a password
+-- the user and the password of relays, byte for byte, if they have a password
 pub record IsTheRelays (w : World) (pair : Credentials) : Type 0 where
   pub user : pair.user ≡ w.station.settings.access.relays.username
   pub password : w.station.settings.access.relays.password ≡ Some pair.password
@@ -162,12 +162,12 @@ abbrev pub OnlyWhoMayIsShown : World → Event → Type 0
 OnlyWhoMayIsShown w event =
     (text : ReplyText) → reply_to w event ≡ SaysText text → (IsShort text → ⊥) → IsShownByRight w event text ⊎ IsShownAtPath w event text
 
--- one who has asked for nothing yet, and may see the listing, is shown it where what it needs is there
+-- a client that has asked for nothing yet, and may see the listing, is shown it if what the listing needs is there
 abbrev pub WhoMayIsShown : World → Type 0
 WhoMayIsShown w = (asked : CommandRequest) (peer : Peer) (listing : Listing) → standing_of w asked.id ≡ Undecided peer → asked.asked ≡ AsksFor listing
     → MaySee w listing asked.pair → IsThereToSee w listing → (text : ReplyText) × (reply_to w (Command asked) ≡ SaysText text) × Tells w listing text
 
--- one who has asked for nothing yet, and asks for a path of the web site, is shown what is there
+-- a client that has asked for nothing yet, and asks for a path of the web site, is shown what is there
 -- rule: Web page
 abbrev pub WhoVisitsIsShown : World → Type 0
 WhoVisitsIsShown w = (asked : ListenRequest) (peer : Peer) (path : WebPath) → standing_of w asked.id ≡ Undecided peer → IsPath w asked.mount path

@@ -27,7 +27,8 @@ pub record Sitting : Type 0 where
 abbrev pub sitting_of_seat : Seat → Sitting
 sitting_of_seat seat = record { mount = seat.mount; source = seat.session; start = seat.place }
 
--- the sitting that begins where its seat was the one and is the other now: a seat in another session is a new sitting
+-- the sitting that begins if the listener had the one seat before and has the other now: a seat in another session is a new
+-- sitting
 abbrev pub begun_sittings : Option Seat → Option Seat → List Sitting
 begun_sittings None (Some seat) = sitting_of_seat seat ∷ []
 begun_sittings (Some old) (Some seat) = (if old.session == seat.session then [] else sitting_of_seat seat ∷ [])
@@ -50,7 +51,7 @@ AreSlices sent (sitting ∷ others) (bytes ∷ rest) = IsSlice sent sitting byte
 AreSlices sent [] (bytes ∷ rest) = ⊥
 AreSlices sent (sitting ∷ others) [] = ⊥
 
--- what a listener gets, cut where it sits down: what comes before its first sitting, and what comes in each
+-- what a listener gets, split when it sits down: what comes before its first sitting, and what comes in each
 pub record Cut (A : Type 0) : Type 0 where
   pub before : List A
   pub each : List (List A)
@@ -60,7 +61,7 @@ abbrev pub cut_behind : {A : Type 0} → List A → List Sitting → Cut A → C
 cut_behind xs [] later = record { before = xs ++ later.before; each = later.each }
 cut_behind xs (sitting ∷ others) later = record { before = xs; each = later.before ∷ later.each }
 
--- what each event brings, cut where the listener sits down
+-- what each event brings, split when the listener sits down
 abbrev pub cut_at_sittings : {A : Type 0} → (World → Event → List A) → World → List Event → ℕ → Cut A
 cut_at_sittings brings w [] id = record { before = []; each = [] }
 cut_at_sittings brings w (event ∷ events) id =

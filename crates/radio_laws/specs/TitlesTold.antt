@@ -25,12 +25,12 @@ abbrev pub title_of_event : Event → List (List ℕ)
 title_of_event (Title id text) = text ∷ []
 title_of_event _ = []
 
--- titles count where the reply is that they were noted
+-- titles count if the reply is that they were noted
 abbrev pub if_noted : Reply → List (List ℕ) → List (List ℕ)
 if_noted Noted titles = titles
 if_noted _ titles = []
 
--- and titles of commands where the reply is that it was done
+-- and titles of commands if the reply is that the command was done
 abbrev pub if_done : Reply → List (List ℕ) → List (List ℕ)
 if_done (SaysText Done) titles = titles
 if_done _ titles = []
@@ -39,7 +39,7 @@ if_done _ titles = []
 abbrev pub source_at : World → List ℕ → Option ℕ
 source_at w mount = option_map (λ session. session.number) (session_of w.station.live mount)
 
--- the title of a command, where this source feeds the mount that it names
+-- the title of a command, if this source feeds the mount that it names
 abbrev pub commanded_at : World → Asked → ℕ → List (List ℕ)
 commanded_at w (Asks (SetTitle mount text)) id = (if is_same_number id (source_at w mount) then text ∷ [] else [])
 commanded_at w asked id = []

@@ -1,4 +1,4 @@
--- Who is let in at a mount, while commands change its users.
+-- The users that are let in at a mount, while commands change them.
 use Rattle.std.specs.Prelude.{◌≡◌, ◌↔◌, ℕ, Bool, true, false, List, Some, None}
 use Rattle.md5.specs.Md5.{md5}
 use Rattle.radio_addr.specs.declared.address.Address.{Address}
@@ -12,7 +12,7 @@ use Rattle.radio_parts.specs.Allowed.{IsCommanded}
 use Rattle.radio_parts.specs.Step.{world_after}
 use Rattle.radio_parts_station.specs.World.{World}
 
--- whether one who sends this pair is let in at the mount, before an event and after it
+-- whether a client that sends this pair is let in at the mount, before an event and after it
 pub data LetInStep (w : World) (event : Event) (mount : List ℕ) (pair : Credentials) (before : Bool) : Bool → Type 0 where
   -- as before
   Stays : LetInStep w event mount pair before before
@@ -22,7 +22,7 @@ pub data LetInStep (w : World) (event : Event) (mount : List ℕ) (pair : Creden
   -- a command takes its user away
   IsTakenAway : IsCommanded w event (DeleteUser mount pair.user) → LetInStep w event mount pair before false
 
--- what an event does to who is let in
+-- what an event does to the users that are let in
 pub record UsersStep (w : World) (event : Event) : Type 0 where
   pub pairs : (mount : List ℕ) (pair : Credentials)
       → LetInStep w event mount pair (lets_in w.station.lists mount (Some pair)) (lets_in (world_after w event).station.lists mount (Some pair))

@@ -27,15 +27,15 @@ ghost use Rattle.radio_laws.specs.TitlesTold.{TitlesAreTold};
 ghost use Rattle.radio_parts_station.specs.Timeouts.{TestsAreInNumbers};
 ghost use Rattle.radio_laws.specs.Outstaying.{NobodyOutstays};
 ghost use Rattle.radio_laws.specs.LentParts.{all_but};
-ghost use Rattle.radio_laws.specs.Locality.{AgreeWithin, AnswersAlike, IsWithinReach, LeavesAlone};
-ghost use Rattle.radio_parts_changes.specs.Counts.{counted};
+ghost use Rattle.radio_laws.specs.Locality.{AgreeWithin, AnswersAlike, IsLeftAlone, IsWithinReach, LeavesAlone};
 ghost use Rattle.radio_parts_changes.specs.Lent.{IsLentTo};
-ghost use Rattle.radio_parts.specs.Planned.{planned, with_counts};
+ghost use Rattle.radio_parts.specs.CanStep.{CanStep};
+ghost use Rattle.radio_parts.specs.ControlSteps.{control_after, control_reply};
 ghost use Rattle.radio_parts_mount.specs.declared.part.MountPart.{MountPart};
 ghost use Rattle.radio_laws.specs.Parts.{PartsDraw, PartsReceive, PartsAreTitled};
 ghost use Rattle.radio_laws.specs.OwnSteps.{OwnStepsAreTheServers, OwnStepsAreAnswered};
 ghost use Rattle.radio_core.specs.Represents.{Represents};
-ghost use Rattle.radio_parts.specs.Step.{reply_to};
+ghost use Rattle.radio_parts.specs.Step.{reply_to, world_after};
 ghost use Rattle.radio_parts_station.specs.World.{World};
 ghost use Rattle.radio_laws.specs.Gone.{Leaving, HasLeft, IsOutOfPlace, StaysGone};
 
@@ -108,8 +108,8 @@ pub fn limits_are_kept()
     // after any events, no more sit at a mount than its settings let, and nobody sits twice if its settings let each user sit
     // once
     ensures within { (settings : Settings) (lists : Lists) (events : List Event) → IsWithinLimits (run_after settings lists events) }
-    // a limit denies only if it is reached then. As a user who sits at the mount a client is denied only if that very user
-    // does
+    // a limit denies only if it is reached then. A client is denied as a user that sits at the mount only if that very user
+    // sits there
     ensures denied { (settings : Settings) (lists : Lists) (events : List Event) (event : Event) → DeniesByLimits (run_after settings lists events) event }
     // a client arrives, and a source feeds, only if fewer are there than may be
     ensures admitted { (settings : Settings) (lists : Lists) (events : List Event) (event : Event) → AdmitsByLimits (run_after settings lists events) event }
@@ -119,7 +119,7 @@ pub fn limits_are_kept()
 /// in.
 // rule: Fallback of a mount; Seat of a newcomer; Start of the burst; Waiting mount
 pub fn listeners_begin_at_a_block()
-    // after any events, only a client that asks to hear a mount is seated, in the session that the mount has then, or waits
+    // after any events, only a client that asks to listen to a mount is seated, in the session that the mount has then, or waits
     // for. It begins at the earliest start of one of its blocks, or at its end, that its burst allows
     ensures seated { (settings : Settings) (lists : Lists) (events : List Event) (event : Event) → BeginsAtABlock (run_after settings lists events) event }
 {}
@@ -131,7 +131,7 @@ pub fn mounts_wait_on_demand()
     // a mount without a session waits for one only if a relay of the settings feeds it on demand. It does wait if all that
     // feed it do
     ensures waits { (settings : Settings) (mount : List ℕ) → WaitsOnDemand settings mount }
-    // after any events, the mounts on demand where somebody sits are wanted, and no others
+    // after any events, the wanted mounts are those on demand at which somebody sits, and no others
     ensures wanted { (settings : Settings) (lists : Lists) (events : List Event) → WantedAreSatAt (run_after settings lists events) }
 {}
 
@@ -194,17 +194,17 @@ pub fn commands_are_done()
         → KilledHearNothing (run_after settings lists events) event }
 {}
 
-/// Commands alone change who is let in, one user at a time, and nobody sits at a mount whose users do not let them in.
+/// Commands alone change the users that are let in, one at a time. Nobody sits at a mount whose users do not let them in.
 // rule: Change of users; Closed to moves
 pub fn users_change_one_by_one()
-    // after any events, who is let in at a mount changes only for a user that a command sets or deletes. No mount gains users
-    // that had none, and the addresses that are let in stay
+    // after any events, the users that are let in at a mount change only for a user that a command sets or deletes. No mount
+    // gains users that had none, and the addresses that are let in stay
     ensures steps { (settings : Settings) (lists : Lists) (events : List Event) (event : Event) → UsersStep (run_after settings lists events) event }
     // nobody sits at a mount whose users, as they are now, do not let them in
     ensures sitters { (settings : Settings) (lists : Lists) (events : List Event) → SittersAreLetIn (run_after settings lists events) }
 {}
 
-/// What is shown is what is there, to those who may see it; hidden mounts stay hidden.
+/// A listing shows what is there, to those who may see it. Hidden mounts stay hidden.
 // rule: Relay password; Public status; Who may see; One moment; Hidden mounts; Icecast status; Web page
 // rule: Paths of the web site; Waiting is not live
 pub fn sight_is_kept()
@@ -286,7 +286,7 @@ pub fn events_go_by_their_mounts()
 pub fn parts_go_by_themselves()
     // after any events, a listener of the mount gets what the part alone says, and only its place in the part changes
     ensures draws { (settings : Settings) (lists : Lists) (events : List Event) → PartsDraw (run_after settings lists events) }
-    // a block of its source that is not denied makes the stream longer, and those who lag lose their seats; nothing changes
+    // a block of its source that is not denied makes the stream longer, and listeners that lag lose their seats; nothing changes
     // at another mount
     ensures blocks { (settings : Settings) (lists : Lists) (events : List Event) → PartsReceive (run_after settings lists events) }
     // a title of its source is the part's, and nothing changes at another mount
@@ -303,12 +303,23 @@ pub fn own_steps_are_the_servers()
     ensures answered { (core w : World) → Represents core w → OwnStepsAreAnswered w }
 {}
 
-/// A control that was lent the parts of some mounts replies as the server does to an event that reaches no other mount.
+/// A control that was lent the parts of some mounts replies to an event that reaches no other, and changes, as the server
+/// does.
 pub fn lent_parts_are_enough()
     // while a part is lent, every other mount is seen as before
     ensures others { (part there : MountPart) (before after : World) → IsLentTo part there before after → AgreeWithin (all_but part.mount) before after }
     // a control replies as the server does in every state that agrees with it on the mounts that the event can reach. What is at
     // the other mounts does not matter
     ensures replies { (core w lent : World) (within : List ℕ → Bool) (event : Event) → Represents core w → AgreeWithin within lent core
-        → IsWithinReach core within event → with_counts (planned lent event).reply (counted lent (planned lent event).change) ≡ reply_to w event }
+        → IsWithinReach core within event → control_reply lent event ≡ reply_to w event }
+    // after its step it agrees on these mounts with a core that represents the state after the event
+    ensures changes { (core w lent : World) (within : List ℕ → Bool) (event : Event) → Represents core w → AgreeWithin within lent core
+        → IsWithinReach core within event
+        → (after : World) × Represents after (world_after w event) × AgreeWithin within (control_after lent event) after }
+    // its step leaves each other mount the session that it had, and the same sitters
+    ensures alone { (core w lent : World) (within : List ℕ → Bool) (event : Event) → Represents core w → AgreeWithin within lent core
+        → IsWithinReach core within event → IsLeftAlone within lent (control_after lent event) }
+    // `Control::step` can take the event, so its contract promises that reply and that change
+    ensures can { (core w lent : World) (within : List ℕ → Bool) (event : Event) → Represents core w → AgreeWithin within lent core
+        → IsWithinReach core within event → CanStep lent event }
 {}

@@ -1,10 +1,9 @@
--- Whose reply a receipt has.
+-- Whose reply a call has.
 use Rattle.std.proofs.Common.{Option, None, Some, Result, Ok, Err, IfOk}
 use Rattle.std.proofs.Math.Logic.{∥∥₁_map}
 use Rattle.std.specs.declared.alloc.AllocError.{AllocError}
 use Rattle.radio_book.specs.ControlLists.{IsControlReply}
-use Rattle.radio_book.specs.MountBooks.{BookOfMount, CanOwn, IsDone, IsOf, IsReplyHere}
-use Rattle.radio_book.specs.Receipts.{ReceiptOf}
+use Rattle.radio_book.specs.MountBooks.{BookOfMount, CanOwn, GivesBack, IsDone, IsReplyHere}
 use Rattle.radio_book.specs.declared.mount_book.Own.{Own}
 use Rattle.radio_book.specs.declared.mount_book.Own.TheVariants.{Made, Elsewhere}
 use Rattle.radio_events.specs.declared.event.Event.{Event}
@@ -13,9 +12,9 @@ use Rattle.radio_parts_station.specs.World.{World}
 use Rattle.radio_locks.specs.Replies.{IsReplied, IsRepliedIf, IsReplyOrElsewhere}
 use Rattle.radio_locks.specs.Replies.IsReplied.{ByMount, ByControl}
 
-pub tried_by : (opening : World) (before after : BookOfMount) (event : Event) (result : Result Own AllocError) → IfOk result (λ own. IsOf event own)
+pub tried_by : (opening : World) (before after : BookOfMount) (event : Event) (result : Result Own AllocError) → IfOk result (λ own. GivesBack event own)
     → (CanOwn before event → IfOk result (λ own. IsDone before event own after)) → IfOk result (λ own. ∥ IsReplyOrElsewhere opening event own ∥₁)
-tried_by opening before after event (Ok (Made receipt)) is done = ∣ ByMount before after done ∣₁
+tried_by opening before after event (Ok (Made reply)) is done = ∣ ByMount before after done ∣₁
 tried_by opening before after event (Ok (Elsewhere same)) is done = ∣ is ∣₁
 tried_by opening before after event (Err refused) is done = tt
 
@@ -25,7 +24,7 @@ drawn_by opening before after event (Ok (Some reply)) done = ∣ ByMount before 
 drawn_by opening before after event (Ok None) done = ∣ tt ∣₁
 drawn_by opening before after event (Err refused) done = tt
 
-pub replied_by : (opening : World) (event : Event) (result : Result ReceiptOf AllocError)
-    → IfOk result (λ receipt. ∥ IsControlReply opening event receipt.reply ∥₁) → IfOk result (λ receipt. ∥ IsReplied opening event receipt.reply ∥₁)
-replied_by opening event (Ok receipt) legal = ∥∥₁_map legal (λ (l : IsControlReply opening event receipt.reply). ByControl l)
+pub replied_by : (opening : World) (event : Event) (result : Result Reply AllocError)
+    → IfOk result (λ reply. ∥ IsControlReply opening event reply ∥₁) → IfOk result (λ reply. ∥ IsReplied opening event reply ∥₁)
+replied_by opening event (Ok reply) legal = ∥∥₁_map legal (λ (l : IsControlReply opening event reply). ByControl l)
 replied_by opening event (Err refused) legal = tt

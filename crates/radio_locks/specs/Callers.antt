@@ -8,6 +8,8 @@ use Rattle.radio_events.specs.Events.{EventTakesNoMemory}
 use Rattle.radio_parts_station.specs.World.{World}
 use Rattle.radio_book.specs.declared.newcomer.Newcomer.TheVariants.{Client}
 use Rattle.radio_book.specs.Newcomers.{is_here}
+use Rattle.radio_book.specs.declared.mount_book.Own.{Own}
+use Rattle.radio_book.specs.declared.mount_book.Own.TheVariants.{Made, Elsewhere}
 use Rattle.radio_events.specs.declared.entry.Entry.{Entry}
 use Rattle.radio_chronicle.specs.Stamps.{stamp}
 use Rattle.radio_chronicle.specs.declared.stamp.Stamp.{Stamp}
@@ -23,6 +25,20 @@ IsNotItsEnd receipts event = (id : ℕ) → event ≡ Leave id → is_here (Clie
 abbrev pub Gains : Bool → List ReceiptOf → Event → Reply → List ReceiptOf → Type 0
 Gains keeps before event reply now = keeps ≡ true → (stamp : Stamp) × (now ≡ before ++ receipt_of stamp event reply ∷ [])
 
+-- the same if a part has replied; if it has not, the pass is as before
+abbrev pub OwnGains : Bool → List ReceiptOf → Event → Own → List ReceiptOf → Type 0
+OwnGains keeps before event (Made reply) now = Gains keeps before event reply now
+OwnGains keeps before event (Elsewhere same) now = now ≡ before
+
+-- A call for this event has ended with a reply, or memory was refused. The caller's pass was so before, and is so now.
+pub record IsResultOfStep (keeps : Bool) (opening : World) (before : List ReceiptOf) (event : Event) (result : Result Reply AllocError) (now : List ReceiptOf) : Type 0 where
+  -- the reply is a part's own, or that of a control that its entries have made, over the parts that it was lent
+  pub legal : IfOk result (λ reply. ∥ IsReplied opening event reply ∥₁)
+  -- if entries are stored, the pass gains the receipt; if they are not, nothing is noted
+  pub gains : IfOk result (λ reply. Gains keeps before event reply now)
+  pub unkept : keeps ≡ false → now ≡ before
+  pub refused : OnErr result (now ≡ before)
+
 -- A call for this event has ended with a receipt of it, or memory was refused. The pass was so before, and is so now.
 -- rule: Legal history
 pub record IsResultOfCall (keeps : Bool) (opening : World) (before : List ReceiptOf) (event : Event) (result : Result ReceiptOf AllocError) (now : List ReceiptOf) : Type 0 where
@@ -34,11 +50,12 @@ pub record IsResultOfCall (keeps : Bool) (opening : World) (before : List Receip
   pub unkept : keeps ≡ false → (now ≡ before) × IfOk result (λ receipt. receipt.stamp ≡ stamp 0 0)
   pub refused : OnErr result (now ≡ before)
 
--- Whatever is stored, the reply is a legal one; and if entries are stored, the pass gains its receipt.
+-- Whatever is stored, the reply is a legal one. If entries are stored, the pass gains its receipt; if they are not, nothing is noted.
 -- rule: Legal history
 pub record IsCalled (keeps : Bool) (opening : World) (before : List ReceiptOf) (event : Event) (reply : Reply) (now : List ReceiptOf) : Type 0 where
   pub legal : ∥ IsReplied opening event reply ∥₁
   pub gains : Gains keeps before event reply now
+  pub unkept : keeps ≡ false → now ≡ before
 
 -- Memory may be refused for this event. If entries are stored, it does not end a client of the caller's that has never fed.
 -- If none are stored, it takes memory.

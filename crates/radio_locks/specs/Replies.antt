@@ -1,4 +1,4 @@
--- Whose reply a receipt has.
+-- Whose reply a call has.
 use Rattle.std.specs.Prelude.{◌≡◌, Option, None, Some}
 use Rattle.radio_book.specs.ControlLists.{IsControlReply}
 use Rattle.radio_book.specs.MountBooks.{BookOfMount, CanOwn, IsOwnStep}
@@ -16,7 +16,7 @@ pub data IsReplied (opening : World) (event : Event) (reply : Reply) : Type 0 wh
 
 -- the part has replied, or its client is somewhere else
 abbrev pub IsReplyOrElsewhere : World → Event → Own → Type 0
-IsReplyOrElsewhere opening event (Made receipt) = IsReplied opening event receipt.reply
+IsReplyOrElsewhere opening event (Made reply) = IsReplied opening event reply
 IsReplyOrElsewhere opening event (Elsewhere same) = same ≡ event
 
 -- the reply is such a one, if there is one

@@ -1,10 +1,12 @@
-//! A hall, as its callers ask it.
+//! A hall, as its callers ask it. Read `apply` first.
 
 ghost use Rattle.std.specs.Prelude.{◌≡◌, [], IfOk, IfSome, IfNone};
 ghost use Rattle.radio_book.specs.ControlLists.{AreWantedThere, HasNoPass, WasThere};
 
+use crate::concerned::own_client;
+use crate::hall::forget_leaver;
 use crate::{Hall, OutOfMemory};
-use radio_book::{Chronicle, Origin, Pass};
+use radio_book::{Chronicle, Origin, Own, Pass};
 use radio_events::{Event, Reply, SharedServer};
 use radio_values::MountName;
 use std::sync::Wait;
@@ -25,6 +27,10 @@ impl<C: Chronicle, H: Origin> SharedServer for Hall<C, H> {
         Hall::pass(self, rt)
     }
 
+    /// Applies one event. A draw of a listener that is attached to a mount, and a block or a title of a mount's source, are applied
+    /// by the mount's part alone, under its lock: first where the client was attached last. Each other event is applied by the
+    /// control, which is lent the parts that it concerns. The pass gains the receipt if entries are stored; if they are not, the event
+    /// is not copied.
     // rule: Legal history; Reserved ends; Order of calls
     fn apply<R: Wait>(
         &self,
@@ -32,8 +38,18 @@ impl<C: Chronicle, H: Origin> SharedServer for Hall<C, H> {
         pass: &mut Pass<C, H>,
         event: Event,
     ) -> Result<Reply, OutOfMemory> {
-        let receipt = Hall::apply(self, rt, pass, event)?;
-        Ok(receipt.into_reply())
+        let Some(id) = own_client(&event) else {
+            forget_leaver(pass, &event);
+            let mut locked = self.enter(rt);
+            return self.apply_by(rt, &mut locked, pass, event);
+        };
+        let Some(list) = pass.list_of(id) else {
+            return self.find(rt, pass, id, event);
+        };
+        match self.try_at(rt, list, pass, event)? {
+            Own::Made(reply) => Ok(reply),
+            Own::Elsewhere(event) => self.find(rt, pass, id, event),
+        }
     }
 
     // rule: Legal history
@@ -47,7 +63,7 @@ impl<C: Chronicle, H: Origin> SharedServer for Hall<C, H> {
         if C::KEEPS {
             SharedServer::apply(self, rt, pass, Event::Draw { id, room })
         } else {
-            // nothing notes it, so it needs no receipt
+            // nothing notes it, so it needs no event
             self.draw_unkept(rt, pass, id, room)
         }
     }

@@ -1,4 +1,4 @@
-//! Replies without receipts.
+//! Draws without events.
 
 ghost use Rattle.std.specs.Prelude.{◌≡◌, false, IfOk};
 ghost use Rattle.radio_events.specs.declared.event.Event.TheVariants.{Draw};
@@ -28,8 +28,7 @@ impl<C: Chronicle, H: Origin> Hall<C, H> {
                 return Ok(reply);
             }
         }
-        let receipt = self.find(rt, pass, id, Event::Draw { id, room })?;
-        Ok(receipt.into_reply())
+        self.find(rt, pass, id, Event::Draw { id, room })
     }
 
     /// Tries the draw at the mount of this list.

@@ -2,23 +2,23 @@
 
 ghost use Rattle.std.specs.Prelude.{◌≡◌, ◌≤◌, ◌^◌, [], true, false, Some, IsOk, IfOk, IfSome, IfNone, OnErr, vec_len};
 ghost use Rattle.radio_book.specs.ControlLists.{AreWantedThere, HasNoPass, WasThere};
-ghost use Rattle.radio_book.specs.MountBooks.{noted_own, IsNowhere, IsOf};
+ghost use Rattle.radio_book.specs.MountBooks.{GivesBack};
 ghost use Rattle.radio_book.specs.Newcomers.{is_here, leaver_of};
 ghost use Rattle.radio_book.specs.declared.newcomer.Newcomer.{Newcomer};
 ghost use Rattle.radio_events.specs.Events.{EventTakesNoMemory};
 ghost use Rattle.radio_parts_station.specs.World.{opening};
-ghost use Rattle.radio_locks.specs.Callers.{IsResultOfCall, MayBeRefused};
+ghost use Rattle.radio_locks.specs.Callers.{IsResultOfCall, IsResultOfStep, MayBeRefused, OwnGains};
 ghost use Rattle.radio_locks.specs.Replies.{IsReplyOrElsewhere};
 
 use crate::OutOfMemory;
-use crate::concerned::{mount_in, own_client};
+use crate::concerned::mount_in;
 use crate::locked_control::LockedControl;
 use crate::mount_lists::MountLists;
 use crate::mount_locks::MountLock;
 use radio_access::Lists;
 use radio_book::{Book, Chronicle, MountBook, Origin, Own, Pass, Receipt, leaver_of};
 use radio_connections::Gate;
-use radio_events::{Asked, Command, Event, Reply};
+use radio_events::{Asked, Command, Event, Reply, SharedServer};
 use radio_settings_values::Settings;
 use radio_values::MountName;
 use std::alloc::Global;
@@ -88,13 +88,13 @@ impl<C: Chronicle, H: Origin> Hall<C, H> {
         self.control.try_lock()?.control.pass()
     }
 
-    /// Applies one event and returns its receipt. A draw of a listener that is attached to a mount, and a block or a
-    /// title of a mount's source, are applied by the mount's part alone, under its lock. Each other event is applied by
-    /// the control, which is lent the parts that it concerns.
+    /// Applies one event and returns its receipt. For workers, who ask for replies alone, there is
+    /// [`SharedServer::apply`](radio_events::SharedServer::apply), which copies no event that nobody stores.
     ///
     /// `OutOfMemory` if memory was refused; the pass is unchanged then. If entries are stored, the end of a client that
     /// was let in by this pass, has not left by it and has never fed by it, is never refused. If none are, no end is
     /// ever refused, nor the clock.
+    // rule: Receipts
     pub fn apply<R: Wait>(
         &self,
         rt: &R,
@@ -107,45 +107,32 @@ impl<C: Chronicle, H: Origin> Hall<C, H> {
         // if none are stored, no end is refused, nor the clock
         ensures refused { OnErr result (MayBeRefused C.KEEPS pass.old event) }
     {
-        match own_client(&event) {
-            Some(id) => self.apply_own(rt, pass, id, event),
-            None => {
-                forget_leaver(pass, &event);
-                let mut locked = self.enter(rt);
-                self.apply_by(rt, &mut locked, pass, event)
+        let copy = match event.again() {
+            Ok(copy) => copy,
+            Err(refused) => {
+                drop(event);
+                return Err(refused);
+            }
+        };
+        match SharedServer::apply(self, rt, pass, event) {
+            Ok(reply) => Ok(pass.receipt(copy, reply)),
+            Err(refused) => {
+                drop(copy);
+                Err(refused)
             }
         }
     }
 
-    /// A block, a title or a draw of this client: first where it was attached last.
-    fn apply_own<R: Wait>(
-        &self,
-        rt: &R,
-        pass: &mut Pass<C, H>,
-        id: u64,
-        event: Event,
-    ) -> Result<Receipt, OutOfMemory>
-        ensures { IsResultOfCall C.KEEPS H.opening pass.old event result pass.new }
-    {
-        let Some(list) = pass.list_of(id) else {
-            return self.find(rt, pass, id, event);
-        };
-        match self.try_at(rt, list, pass, event)? {
-            Own::Made(receipt) => Ok(receipt),
-            Own::Elsewhere(event) => self.find(rt, pass, id, event),
-        }
-    }
-
-    /// The same while nobody else has the control: at the mount where the control knows the client, which the pass remembers, or by
-    /// the control.
+    /// Applies a block, a title or a draw of this client while nobody else has the control: at the mount where the control knows the
+    /// client, which the pass remembers, or by the control.
     pub(crate) fn find<R: Wait>(
         &self,
         rt: &R,
         pass: &mut Pass<C, H>,
         id: u64,
         event: Event,
-    ) -> Result<Receipt, OutOfMemory>
-        ensures { IsResultOfCall C.KEEPS H.opening pass.old event result pass.new }
+    ) -> Result<Reply, OutOfMemory>
+        ensures { IsResultOfStep C.KEEPS H.opening pass.old event result pass.new }
     {
         let mut locked = self.enter(rt);
         // a worker draws for a silent source too, and the pass keeps where its blocks go
@@ -157,9 +144,9 @@ impl<C: Chronicle, H: Origin> Hall<C, H> {
             return self.apply_by(rt, &mut locked, pass, event);
         };
         match self.try_at(rt, list, pass, event)? {
-            Own::Made(receipt) => {
+            Own::Made(reply) => {
                 pass.remember(id, list);
-                Ok(receipt)
+                Ok(reply)
             }
             Own::Elsewhere(event) => {
                 pass.forget(id);
@@ -169,17 +156,17 @@ impl<C: Chronicle, H: Origin> Hall<C, H> {
     }
 
     /// Tries the event at the mount of this list.
-    fn try_at<R: Wait>(
+    pub(crate) fn try_at<R: Wait>(
         &self,
         rt: &R,
         list: u64,
         pass: &mut Pass<C, H>,
         event: Event,
     ) -> Result<Own, OutOfMemory>
-        ensures event { IfOk result (λ own. IsOf event own) }
+        ensures back { IfOk result (λ own. GivesBack event own) }
         ensures tried { IfOk result (λ own. ∥ IsReplyOrElsewhere H.opening event own ∥₁) }
-        ensures pass { C.KEEPS ≡ true → IfOk result (λ own. pass.new ≡ noted_own own pass.old) }
-        ensures unkept { C.KEEPS ≡ false → (pass.new ≡ pass.old) × IfOk result (λ own. IsNowhere own) }
+        ensures gains { IfOk result (λ own. OwnGains C.KEEPS pass.old event own pass.new) }
+        ensures unkept { C.KEEPS ≡ false → pass.new ≡ pass.old }
         ensures err { OnErr result (pass.new ≡ pass.old) }
     {
         let Some(lock) = self.lock_of(list) else {
@@ -193,17 +180,18 @@ impl<C: Chronicle, H: Origin> Hall<C, H> {
     }
 
     /// An event of the control, which is lent the parts that it concerns.
-    fn apply_by<R: Wait>(
+    pub(crate) fn apply_by<R: Wait>(
         &self,
         rt: &R,
         locked: &mut LockedControl<C, H>,
         pass: &mut Pass<C, H>,
         event: Event,
-    ) -> Result<Receipt, OutOfMemory>
-        ensures called { IsResultOfCall C.KEEPS H.opening pass.old event result pass.new }
+    ) -> Result<Reply, OutOfMemory>
+        ensures called { IsResultOfStep C.KEEPS H.opening pass.old event result pass.new }
         ensures refused { OnErr result (MayBeRefused C.KEEPS pass.old event) }
     {
         let concerned = locked.concerned(pass, &event);
+        let sets_fallback = is_fallback_change(&event);
         let LockedControl {
             control,
             lent,
@@ -215,12 +203,12 @@ impl<C: Chronicle, H: Origin> Hall<C, H> {
         let added = self.add_book(rt, lent, lists, mount_in(&event));
         let applied = apply_lent(control, lent, added, pass, event);
         self.put_all(rt, lent);
-        *has_set_fallback = *has_set_fallback || is_fallback_set(&applied);
+        *has_set_fallback = *has_set_fallback || (sets_fallback && is_text(&applied));
         applied
     }
 
     /// The control, as soon as nobody else has it.
-    fn enter<R: Wait>(&self, rt: &R) -> MutexGuard<'_, LockedControl<C, H>> {
+    pub(crate) fn enter<R: Wait>(&self, rt: &R) -> MutexGuard<'_, LockedControl<C, H>> {
         for _ in 0..TRIES {
             if let Some(locked) = self.control.try_lock() {
                 return locked;
@@ -340,8 +328,8 @@ fn apply_lent<C: Chronicle, H: Origin>(
     added: Result<(), OutOfMemory>,
     pass: &mut Pass<C, H>,
     event: Event,
-) -> Result<Receipt, OutOfMemory>
-    ensures called { IsResultOfCall C.KEEPS H.opening pass.old event result pass.new }
+) -> Result<Reply, OutOfMemory>
+    ensures called { IsResultOfStep C.KEEPS H.opening pass.old event result pass.new }
     ensures leave { IsOk added → (one : Newcomer) → leaver_of event ≡ Some one → is_here one pass.old ≡ true → vec_len lent.old ≤ 1 → IsOk result }
     ensures frees { IsOk added → C.KEEPS ≡ false → EventTakesNoMemory event → IsOk result }
 {
@@ -352,20 +340,21 @@ fn apply_lent<C: Chronicle, H: Origin>(
     control.apply(pass, lent.as_mut_slice(), event)
 }
 
-/// Returns whether a command was done that sets the fallback of a mount.
-fn is_fallback_set(applied: &Result<Receipt, OutOfMemory>) -> bool {
-    let Ok(receipt) = applied else {
+/// Returns whether a text was replied, as to a command that was done.
+fn is_text(applied: &Result<Reply, OutOfMemory>) -> bool {
+    matches!(applied, Ok(Reply::Text(_)))
+}
+
+/// Returns whether the event asks for another fallback of a mount.
+fn is_fallback_change(event: &Event) -> bool {
+    let Event::Command(asked) = event else {
         return false;
     };
-    let Event::Command(asked) = receipt.event() else {
-        return false;
-    };
-    let sets = matches!(&asked.asked, Asked::Command(Command::SetFallback { .. }));
-    sets && matches!(receipt.reply(), Reply::Text(_))
+    matches!(&asked.asked, Asked::Command(Command::SetFallback { .. }))
 }
 
 /// Forgets the mount of the client or relay whose connection the event closes, if it closes one.
-fn forget_leaver<C: Chronicle, H: Origin>(pass: &mut Pass<C, H>, event: &Event)
+pub(crate) fn forget_leaver<C: Chronicle, H: Origin>(pass: &mut Pass<C, H>, event: &Event)
     ensures { pass.new ≡ pass.old }
 {
     if let Some(gone) = leaver_of(event) {

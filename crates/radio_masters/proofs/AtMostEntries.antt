@@ -69,7 +69,7 @@ module _ (mount : List ℕ) where
   rest_by items now first (Shut ending) shut =
       ([], now, subst (λ (s : State). Follows s (AreOfItems mount now.number items [] now) ((now ≡ now) × (nil ≡ nil))) (sym shut) (refl, refl))
 
-  -- an event with its reply is the first of what comes of it and of the rest
+  -- an event with its reply is the first of the entries of the event and of the rest
   event_first : (number : Option ℕ) (event : Event) (items : List PullItem) (reply : Reply) → AreFirst (state_after_reply number reply).number items []
       → AreFirstAnd number (Some event) items (entry event reply ∷ [])
   event_first number event items reply first =

@@ -23,7 +23,7 @@ kept_on Closed front bytes front' e = e
 kept_on Failed front bytes front' e = e
 kept_on OutOfMemory front bytes front' e = tt
 
--- a turn in which bytes came, by how the pull stands within
+-- a turn in which bytes came, by the state of the pull within it
 pub turn_with_bytes : {S : Type 0} (steps : Steps S) (pull before after : PullOver) (bytes : List ℕ) (from to : S) (turn : PullTurn) → before ≡ pull
     → FrontIsTaken before.outgoing before.taken after.outgoing after.taken → after.given ≡ before.given ++ bytes
     → Comes steps before.relay bytes from turn after.relay to → IsCalledIn turn before.calls after.calls
@@ -32,6 +32,6 @@ turn_with_bytes steps pull before after bytes from to turn e written given comes
     subst (λ (p : PullOver). IsPullTurn steps p from turn after to) e
     (record { bytes = bytes; written = written; given = given; comes = comes; called = called; front = front })
 
--- bytes that a line gave stand behind what came
+-- the bytes that a line gave follow those that came before
 abbrev pub Came : List ℕ → List ℕ → ListOver → Type 0
 Came given came pull = (bytes : List ℕ) × (given ≡ pull.given ++ bytes) × (came ≡ pull.came ++ bytes)

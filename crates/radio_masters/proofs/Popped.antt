@@ -4,7 +4,7 @@ use Rattle.std.specs.Option.{IsSome}
 use Rattle.std.proofs.lemmas.Bool.{false≢true}
 use Rattle.std.proofs.lemmas.List.{take-append-le, length-append}
 
--- the front is the same without the last one, if that stands behind it
+-- the front is the same without the last element, if that comes after the front
 pub front_popped : {X : Type 0} (n : ℕ) (xs ys : List X) (last : Option X) → IsSome last → IfSome last (λ x. xs ≡ ys ++ x ∷ []) → n < length xs
     → take n ys ≡ take n xs
 front_popped n xs ys None some e below = absurd (false≢true some)

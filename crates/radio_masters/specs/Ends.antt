@@ -6,7 +6,8 @@ use Rattle.radio_policy.specs.declared.rule.Rule.TheVariants.{TooManySources}
 use Rattle.radio_masters.specs.declared.relay_end.RelayEnd.{RelayEnd}
 use Rattle.radio_masters.specs.declared.relay_end.RelayEnd.TheVariants.{By, Status}
 
--- an answer that cannot be pulled ends a relay by its status, where that is not 200; else the relay ends by how its pull was shut
+-- If an answer cannot be pulled and its status is not 200, the relay ends by that status. Else it ends by the word that shut its
+-- pull.
 -- rule: Failures of relays
 abbrev pub end_by : Ending → Option ℕ → RelayEnd
 end_by BadPull (Some status) = if status == 200 then By BadPull else Status status

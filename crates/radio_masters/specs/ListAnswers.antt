@@ -20,7 +20,7 @@ abbrev pub body_of_length : Option ℕ → List ℕ → Result (List ℕ) Master
 body_of_length None rest = Err TooLong
 body_of_length (Some n) rest = if nat_lt (length rest) n then Err Cut else Ok (take n rest)
 
--- the body, by the value of the header `Content-Length`; without it, all up to where the master has closed
+-- the body, by the value of the header `Content-Length`; without that header, all bytes up to the master's close
 -- rule: List of a slave
 abbrev pub body_by : Bool → Option (List ℕ) → List ℕ → Result (List ℕ) MasterListFault
 body_by has_closed (Some text) rest = body_of_length (number_of 10 max_list text) rest
@@ -45,8 +45,8 @@ abbrev pub IsListBody : List ℕ → Bool → Result (List ℕ) MasterListFault 
 IsListBody bytes has_closed body =
     (reading : Result (Progress ResponseParts) HeadFault) × IsReading ShowsResponse bytes reading × (body ≡ body_as has_closed bytes reading)
 
--- a slave's connection to its master: what is still to be written of the request, what the line gave and took and how often it was called,
--- and what is kept of the answer
+-- A slave's connection to its master: what is still to be written of the request, what the line gave and took, and how often it
+-- was called. Then what is kept of the answer.
 pub record ListOver : Type 0 where
   pub outgoing : List ℕ
   pub given : List ℕ

@@ -39,8 +39,8 @@ status_in (Ok (Whole head length)) = Some head.status
 status_in (Ok More) = None
 status_in (Err fault) = None
 
--- a pull over a line: what is still to be written of the request, all that the line gave and took, how often it was called, and the front of
--- the answer
+-- A pull over a line: what is still to be written of the request, all that the line gave and took, and how often it was called.
+-- Then the front of the answer.
 pub record PullOver : Type 0 where
   pub relay : Pulling
   pub outgoing : List ℕ
@@ -95,8 +95,8 @@ module _ {S : Type 0} (steps : Steps S) where
   Comes relay bytes from Failed relay' to = (bytes ≡ []) × (relay' ≡ relay) × (to ≡ from)
   Comes relay bytes from OutOfMemory relay' to = AppliesAtMost relay bytes from relay' to
 
-  -- a turn: the line takes the front of what is pending and is read from once, unless it has failed by then, and the result of what it
-  -- gave
+  -- A turn: the line takes the front of what is pending, and is read once, unless it has failed by then. Then the relay has the
+  -- result of what the line gave.
   -- rule: Turn of a pull
   pub record IsPullTurn (pull : PullOver) (from : S) (turn : PullTurn) (pull' : PullOver) (to : S) : Type 0 where
     pub bytes : List ℕ

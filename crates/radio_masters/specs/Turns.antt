@@ -1,4 +1,4 @@
--- Whose turn it is among relays that wait for a place.
+-- The turns of relays that wait for a place.
 use Rattle.std.specs.Prelude.{◌≡◌, ℕ, Bool, nat_le, List, filter, take}
 use Rattle.std.specs.Ordering.{nat_cmp, ordering_then}
 use Rattle.std.specs.List.Sorted.{IsPermutation, IsSorted}

@@ -52,7 +52,7 @@ impl From<OutOfMemory> for MasterListFault {
 
 /// Returns the mounts in a master's answer to the request for its list, of which these bytes have come: the lines of
 /// its body that name one, each once, in the order of their bytes. The body has the length of `Content-Length` (RFC
-/// 9112, section 6), or else ends where the master has closed.
+/// 9112, section 6). Without that header it ends at the master's close.
 ///
 /// Errors, of which the first that applies comes: `Cut` if the head has not ended, `BadHead`, `Status`, `BadHead` for
 /// a `Transfer-Encoding`, `TooLong`, `Cut`; `OutOfMemory` if memory was refused.
@@ -130,7 +130,7 @@ fn front(rest: &[u8], length: usize) -> Result<&[u8], MasterListFault>
     Ok(&rest[..length])
 }
 
-/// The body that ends where the master has closed.
+/// Returns the body that ends at the master's close.
 fn body_to_the_end(rest: &[u8], has_closed: bool) -> Result<&[u8], MasterListFault>
     ensures body { IfOk result (λ body. body_by has_closed None rest.now ≡ Ok body.now) }
     ensures fault { IfErr result (λ fault. body_by has_closed None rest.now ≡ Err fault) }

@@ -56,9 +56,9 @@ impl<L: Line> ListPull<L> {
         })
     }
 
-    /// Writes once what the line takes of the request, and reads once into the buffer. The list, once the master has closed;
-    /// `None` until then. The faults are those of [`read_list_answer`], and `Cut` where the line has failed, `TooLong` where
-    /// more has come than a list and its head.
+    /// Writes once what the line takes of the request, and reads once into the buffer. Returns the list once the master has
+    /// closed, and `None` until then. The faults are those of [`read_list_answer`], `Cut` if the line has failed, and `TooLong`
+    /// if more has come than a list and its head.
     // rule: List of a slave
     pub fn turn(
         &mut self,

@@ -97,8 +97,8 @@ impl<L: Line> MountPull<L> {
         }
     }
 
-    /// Writes once what the line takes of the request, and reads once into the buffer. What came is pulled in; where
-    /// nothing has come, the server is asked whether the relay goes on.
+    /// Writes once what the line takes of the request, and reads once into the buffer. It pulls in the bytes that came. If
+    /// none came, it asks the server whether the relay goes on.
     // rule: Turn of a pull
     pub fn turn<S: Server>(&mut self, server: &mut S, buffer: &mut [u8]) -> PullTurn
         ensures { IsPullTurn S.steps self.old server.old result self.new server.new }

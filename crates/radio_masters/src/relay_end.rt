@@ -30,8 +30,8 @@ pub enum RelayEnd {
 }
 
 impl RelayEnd {
-    /// Why a relay has ended whose pull was shut so, and whose master has answered with this status, if a whole head of its
-    /// answer has come.
+    /// Returns why a relay has ended, by the word that shut its pull and the status of its master's answer. `None` is the status
+    /// if no whole head of the answer has come.
     // rule: Failures of relays
     pub fn of(ending: Ending, status: Option<u16>) -> RelayEnd
         ensures { result ≡ end_by ending status }

@@ -1,4 +1,4 @@
-//! Whose turn it is among relays that wait for a place.
+//! The turns of relays that wait for a place.
 
 ghost use Rattle.std.specs.Prelude.{IfOk};
 ghost use Rattle.radio_masters.specs.Turns.{HaveTheirTurn};

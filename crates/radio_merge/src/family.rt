@@ -54,7 +54,7 @@ impl MountList {
     }
 }
 
-/// All lists of a server, once nobody calls it any more.
+/// All lists of a server, once no caller calls it any more.
 #[derive(Drop)]
 pub struct Family {
     /// The list of the control.

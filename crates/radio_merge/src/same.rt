@@ -88,7 +88,7 @@ fn is_source_end(event: &Event, source: u64) -> bool
     matches!(event, Event::SourceEnd { id } if source == *id)
 }
 
-/// Whether it is this request to hear a mount.
+/// Returns whether it is this request to listen to a mount.
 fn is_listener(event: &Event, wanted: &ListenRequest) -> bool
     ensures { IsTrue result ↔ Event.Listen wanted.now ≡ event.now }
 {

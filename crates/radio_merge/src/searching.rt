@@ -182,7 +182,7 @@ impl<'a> Search<'a> {
     }
 }
 
-/// Where the list is cut next, if it is.
+/// Returns the next cut of the list, if there is one.
 fn next_cut(lines: &[ControlLine], list: u64) -> Option<u64> {
     for line in lines {
         match line {

@@ -72,7 +72,7 @@ abbrev pub facts_of_asked : Peer → List ℕ → Asked → List Fact
 facts_of_asked peer user (Given command) = facts_of_command peer user command
 facts_of_asked peer user asked = []
 
--- the facts of an event of a client, who has named this agent
+-- the facts of an event of a client that has named this agent
 -- rule: Lines of changes
 abbrev pub facts_of : Peer → List ℕ → Event → List Fact
 facts_of peer agent (Source asked) = facts_of_source peer agent asked

@@ -1,7 +1,7 @@
 -- What is kept of a request for the log.
 use Rattle.std.specs.Prelude.{ℕ, List, []}
 
--- its method, its path, the user whom it names and its user agent
+-- its method, its path, the user that it names and its user agent
 pub record Kept : Type 0 where
   pub method : List ℕ
   pub path : List ℕ

@@ -13,7 +13,7 @@ note_of_text (Moved count) = IsAnswered
 note_of_text (Ended count) = IsAnswered
 note_of_text text = Shown
 
--- what is noted of a reply: nothing of an arrival, of data, of who was finished before, and of what fits nobody
+-- What is noted of a reply. Nothing is noted of an arrival, of data, of a client that was finished before, and of a stray event.
 abbrev pub note_of_reply : Reply → ReplyNote
 note_of_reply Noted = IsNoted
 note_of_reply Feeding = Feeds

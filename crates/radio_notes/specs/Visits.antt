@@ -71,7 +71,7 @@ visit_after visit (Ended end) =
 abbrev pub seconds_between : ℕ → ℕ → ℕ
 seconds_between since ms = (ms - since) / 1000
 
--- the mount of a client's line: where a listener was last, if that was noted, else the path that was asked for
+-- the mount of a client's line: a listener's last mount, if that was noted, else the path that the client asked for
 -- rule: Last mount
 abbrev pub mount_of_visit : Part → List ℕ → List ℕ → List ℕ
 mount_of_visit Neither asked last = []
@@ -79,7 +79,7 @@ mount_of_visit Listener asked [] = asked
 mount_of_visit Listener asked (b ∷ last) = b ∷ last
 mount_of_visit Source asked last = asked
 
--- what the log says of a client who is gone
+-- what the log says of a client that is gone
 -- rule: Line of a client
 abbrev pub client_ended : Peer → ℕ → Visit → RequestSoFar → List ℕ → ClientEnded
 client_ended peer ms visit request last = record {

@@ -21,7 +21,7 @@ pub struct Account {
     alloc: Global,
     visit: Cell<Visit>,
     request: Cell<RequestSoFar>,
-    /// The mount where the client was last, if it is not the one that it asked for; else empty.
+    /// The client's last mount, if it is not the one that it asked for. Else empty.
     last_mount: Cell<Vec<u8>>,
     is_source_logged: Cell<bool>,
     is_end_logged: Cell<bool>,
@@ -40,7 +40,7 @@ impl Account {
         }
     }
 
-    /// Whether the client hears a mount, or has heard one last.
+    /// Returns whether the client is, or was last, a listener of a mount.
     pub fn is_listener(&self) -> bool {
         self.visit.get().part == Part::Listener
     }
@@ -100,7 +100,7 @@ impl Account {
         }
     }
 
-    /// The same, where something of the reply is noted. It is no part of what is done for each draw.
+    /// The same, for a reply of which something is noted. It is no part of what is done for each draw.
     #[cold]
     fn log_and_note(&self, log: &Log, notice: Notice, note: ReplyNote) {
         let due = notice.due(note);

@@ -7,8 +7,8 @@ ghost use Rattle.radio_notes.specs.declared.visit.Part.TheVariants.{Neither};
 ghost use Rattle.radio_notes.specs.Counts.{capped};
 ghost use Rattle.radio_notes.specs.Laws.{fed_in, first_end_of, first_status_of, handed_in, last_part_of, shows_station, visit_of};
 
-/// The record of a connection has the end and the status that came first. It has all bytes that its line took and that
-/// came of its stream, and the part that was given last, whatever has happened in between.
+/// The record of a connection has the end and the status that came first. It counts all bytes that its line took and
+/// all that its stream brought. It has the part that was given last, whatever has happened in between.
 // rule: Polls; Line of a client
 pub fn visits_have_what_happened()
     ensures since { (ms : ℕ) (happenings : List HappeningOf) → (visit_of ms happenings).since_ms ≡ ms }

@@ -9,15 +9,15 @@ use radio_log::{Fact, Moment};
 use std::alloc::Global;
 use std::cell::Cell;
 
-/// The lines that wait to be written. One for which there is no room, or for which memory is refused, is lost, and the
-/// next one that is not says how many were: [`Lines`] decides it.
+/// The lines that wait to be written. A line is lost if there is no room for it, or memory is refused for it. The
+/// next line that is not lost says how many were: [`Lines`] decides it.
 #[derive(Drop)]
 pub struct Log {
     alloc: Global,
     /// The moment, in seconds since 1970.
     seconds: Cell<u64>,
     lines: Cell<Lines>,
-    /// Whether clients who were only shown something of the station have lines.
+    /// Whether clients that were only shown something of the station have lines.
     has_polls: Cell<bool>,
 }
 

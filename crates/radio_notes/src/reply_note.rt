@@ -15,7 +15,7 @@ pub enum ReplyNote {
     Noted,
     /// That a client feeds a mount.
     Feeding,
-    /// That a client hears a mount.
+    /// That a client listens to a mount.
     Seated,
     /// That there is an answer.
     Text,

@@ -16,7 +16,7 @@ use std::marker::Model;
 /// How many bytes of a path, of a user and of a user agent are kept at most.
 const MOST_KEPT: usize = 255;
 
-/// What is kept of a request: its method, its path without its query, the user whom it names, and its user agent.
+/// What is kept of a request: its method, its path without its query, the user that it names, and its user agent.
 ///
 /// In contracts it is a `Kept`.
 #[derive(Drop)]

@@ -1,11 +1,11 @@
-//! What has come of a client's request, as far as the log keeps it.
+//! The part of a client's request that has arrived, as far as the log keeps it.
 
 ghost use Rattle.std.specs.Prelude.{◌≡◌};
 ghost use Rattle.radio_notes.specs.Requests.{request_kept};
 
 use crate::request::Request;
 
-/// What has come of a client's request so far.
+/// The part of a client's request that has arrived so far.
 #[derive(Drop)]
 pub enum RequestSoFar {
     /// These first bytes of a head, which may be none.

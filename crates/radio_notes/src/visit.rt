@@ -18,9 +18,9 @@ use std::alloc::Global;
 /// What a client does.
 #[derive(Clone, Copy, PartialEq, Eq)]
 pub enum Part {
-    /// It neither hears nor feeds a mount, or not yet.
+    /// It neither listens to a mount nor feeds one, or not yet.
     Neither,
-    /// It hears a mount.
+    /// It listens to a mount.
     Listener,
     /// It feeds a mount.
     Source,
@@ -130,7 +130,7 @@ impl Visit {
         ms.saturating_sub(self.since_ms) / 1000
     }
 
-    /// The mount of its line: the one where the client was last, if that was noted, else the one that it asked for. Empty if
+    /// Returns the mount of the client's line: its last mount, if that was noted, else the one that it asked for. Empty if
     /// it was let in to none.
     fn mount<'a>(self, asked: &'a [u8], last: &'a [u8]) -> &'a [u8]
         ensures { result.now ≡ mount_of_visit self.part asked.now last.now }
@@ -143,7 +143,7 @@ impl Visit {
     }
 
     /// Returns what the log says of the client, which is gone at this moment, in milliseconds. It says what was read
-    /// from it, and the mount where it was last, which is empty if it is the one that it asked for.
+    /// from it, and its last mount, which is empty if it is the one that it asked for.
     // rule: Last mount; Line of a client
     pub(crate) fn client_ended<'a>(
         self,
@@ -257,7 +257,7 @@ fn first_end(before: Option<End>, end: End) -> Option<End>
     }
 }
 
-/// The name of a mount where a client was last, if it is not the one that it asked for by this path. Empty if it is, or if
+/// Returns the name of a client's last mount, if it is not the one that it asked for by this path. Empty if it is, or if
 /// memory is refused for it.
 // rule: Last mount
 pub(crate) fn elsewhere(alloc: Global, path: &[u8], mount: &MountName) -> Vec<u8>

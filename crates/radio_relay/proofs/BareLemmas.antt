@@ -17,7 +17,7 @@ plain-titles : (bytes : List ℕ) → titles_in (map (λ b. SoundPart b) bytes) 
 plain-titles [] = refl
 plain-titles (b ∷ bytes) = plain-titles bytes
 
--- a title brings no sound, and stands before the titles behind it
+-- a title brings no sound
 title-sound : (title : Option (List ℕ)) (parts : List PulledPart) → sound_of_parts (title_parts title ++ parts) ≡ sound_of_parts parts
 title-sound None parts = refl
 title-sound (Some title) parts = refl
@@ -27,7 +27,7 @@ title-titles : (texts : List (List ℕ)) (text : List ℕ) (title : Option (List
 title-titles texts text None parts is same = rw is same
 title-titles texts text (Some title) parts is same = rw is (ap (λ (titles : List (List ℕ)). cleaned max_title title ∷ titles) same)
 
--- what is heard
+-- the sound of the parts is the sound read
 heard-sound : (atoms : List StreamItem) → sound_of_parts (parts_heard atoms) ≡ sound_heard atoms
 heard-sound [] = refl
 heard-sound (SoundByte b ∷ atoms) = ap (λ (xs : List ℕ). b ∷ xs) (heard-sound atoms)
@@ -41,7 +41,7 @@ heard-titles (WholeText text ∷ atoms) = title-titles (texts_in atoms) text (ti
 pub plain_is_sound : PlainIsSound
 plain_is_sound head rest is = rw is (plain-sound rest, plain-titles rest)
 
--- from the law of what is heard in a stream from its start
+-- from the laws of what is read in a stream from its start
 pub woven_is_bare : ((n : ℕ) (out : List ℕ) → sound_heard (atoms_of_piece (new_unweaving n) out) ≡ bare n out)
     → ((n : ℕ) (out : List ℕ) → texts_in (atoms_of_piece (new_unweaving n) out) ≡ block_texts n out) → WovenIsBare
 woven_is_bare sounds texts head n rest is =

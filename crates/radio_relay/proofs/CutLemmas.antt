@@ -43,7 +43,7 @@ pulling_is_one agree bytes one other h k = h.2 ∙ readings-alike agree bytes h.
 nothing_came : IsReading ShowsResponse [] (Ok More)
 nothing_came = record { open_end = λ place end ends. let is = ends.line in cc; room = omega arith }
 
--- what is heard of pieces is heard of their bytes
+-- pieces are read as their bytes are
 abbrev pub HeardInPieces : Type 0
 HeardInPieces = (u : Unweaving) (pieces : List (List ℕ)) → heard_by_pieces u pieces ≡ atoms_of_piece u (concat pieces)
 

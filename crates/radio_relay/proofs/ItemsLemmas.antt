@@ -19,19 +19,19 @@ pub with_parts-append : (g : Gathered) (one other : List PulledPart) → with_pa
 with_parts-append g [] other = refl
 with_parts-append g (part ∷ one) other = with_parts-append (with_gathered_part g part) one other
 
--- what is heard of an item and of those behind it
+-- the parts of an item and of the items after it
 pub with_parts-heard : (g : Gathered) (item : Item) (items : List Item)
     → with_parts g (parts_heard (atoms_of (item ∷ items))) ≡ with_parts (with_parts g (parts_heard (atoms_of_item item))) (parts_heard (atoms_of items))
 with_parts-heard g item items =
     ap (with_parts g) (flat_map-append parts_of_atom (atoms_of_item item) (atoms_of items))
     ∙ with_parts-append g (parts_heard (atoms_of_item item)) (parts_heard (atoms_of items))
 
--- sound that is heard
+-- the parts of sound
 pub parts_heard-sound : (sound : List ℕ) → parts_heard (map (λ b. SoundByte b) sound) ≡ map (λ b. SoundPart b) sound
 parts_heard-sound [] = refl
 parts_heard-sound (b ∷ sound) = ap (λ (parts : List PulledPart). SoundPart b ∷ parts) (parts_heard-sound sound)
 
--- a text that is heard
+-- the parts of a text
 pub parts_heard-text : (text : List ℕ) → parts_heard (WholeText text ∷ []) ≡ title_parts (title_of text)
 parts_heard-text text = append-nil (title_parts (title_of text))
 

@@ -34,7 +34,7 @@ use Rattle.radio_relay.specs.Laws.{sound_of_parts, titles_in, titles_of_texts, A
 use Rattle.radio_relay.proofs.BareLemmas.{woven_is_bare}
 use Rattle.radio_relay.proofs.CutLemmas.{readings-alike}
 
--- ---- the interval as the head tells it
+-- ---- the interval that the head names
 
 -- digits are no white space
 abbrev IsDigit : ℕ → Type 0

@@ -23,7 +23,7 @@ passes_below : (n : ℕ) (passes : ℕ → Bool) (b : ℕ) → all_below n passe
 passes_below zero passes b all low = absurd (omega arith)
 passes_below (suc n) passes b all low = passes_at n passes b (passes n) refl all low (passes_below n passes b)
 
--- the set has the byte exactly where a path lacks it
+-- the set has the byte exactly if a path does not
 abbrev pub agrees : AsciiSet → ℕ → Bool
 agrees set b = if contains set b then not (is_path_byte b) else is_path_byte b
 
@@ -33,7 +33,7 @@ choose true false x y h = refl
 choose false true x y h = refl
 choose false false x y h = absurd (false≢true h)
 
--- bytes outside ASCII stand for themselves in no path
+-- no byte outside ASCII is written as itself in a path
 no_path_byte : (b : ℕ) → 128 ≤ b → is_path_byte b ≡ false
 no_path_byte b high =
     let low_0 : leb 48 b ≡ true = le-leb 48 b (omega arith) in

@@ -1,4 +1,4 @@
--- The result of a pull, whoever applies its events.
+-- The result of a pull, for any server that applies its events.
 use Rattle.std.specs.Prelude.{◌≡◌, ◌⊎◌, ℕ, true, List, [], ◌∷◌, Option, None, Some}
 use Rattle.radio_events.specs.declared.event.Event.{Event}
 use Rattle.radio_events.specs.declared.event.Event.TheVariants.{RelayDown}
@@ -14,7 +14,7 @@ use Rattle.radio_events.specs.declared.state.Ending.TheVariants.{BadPull}
 use Rattle.radio_events.specs.Servers.{Steps}
 use Rattle.radio_relay.specs.Pulling.{MakingTakesMemory, Pulling, NumberedState, state_after_reply, event_for, is_shut, running_pull}
 
--- the rest comes about where the pull goes on
+-- the rest happens if the pull goes on
 abbrev pub Follows : State → Type 0 → Type 0 → Type 0
 Follows Running rest last = rest
 Follows (Shut ending) rest last = last
@@ -31,7 +31,7 @@ module _ {S : Type 0} (steps : Steps S) where
   GoesDown None from to = to ≡ from
   GoesDown (Some id) from to = (reply : Reply) × steps from (RelayDown id) reply to
 
-  -- so it does where its pull is shut
+  -- the relay goes down if its pull is shut
   abbrev pub GoesDownIfShut : State → Option ℕ → S → S → Type 0
   GoesDownIfShut Running number from to = to ≡ from
   GoesDownIfShut (Shut ending) number from to = GoesDown number from to

@@ -28,7 +28,7 @@ relay_at settings mount = find (λ (relay : RelaySetting). bytes_eq relay.local_
 abbrev pub has_no_table : Settings → List ℕ → Bool
 has_no_table settings mount = is_none (find (λ (table : MountSetting). bytes_eq table.name mount) settings.mounts)
 
--- a relay is wished always, or, where it is on demand, while its mount is wanted
+-- A relay is always wished, unless it is on demand. Then it is wished while its mount is wanted.
 abbrev pub is_wished : List (List ℕ) → RelaySetting → Bool
 is_wished wanted relay = not relay.on_demand || has_name wanted relay.local_mount
 
@@ -36,7 +36,7 @@ is_wished wanted relay = not relay.on_demand || has_name wanted relay.local_moun
 abbrev pub relay_listed : List ℕ → SlaveSetting → RelaySetting
 relay_listed name slave = record { master = slave.master; mount = name; local_mount = name; login = None; on_demand = false }
 
--- the relay of a listed name, where there is a slave and no table of that name
+-- the relay of a listed name, if there is a slave and no table of that name
 abbrev pub listed_at : Settings → List (List ℕ) → List ℕ → Option RelaySetting
 listed_at settings list mount =
     if is_among_names list mount && has_no_table settings mount then option_map (relay_listed mount) settings.slave else None

@@ -25,7 +25,7 @@ pub data PulledPart : Type 0 where
   SoundPart : ℕ → PulledPart
   TitlePart : List ℕ → PulledPart
 
--- a title, cleaned, where there is one
+-- a title, cleaned, if there is one
 abbrev pub title_parts : Option (List ℕ) → List PulledPart
 title_parts None = []
 title_parts (Some title) = TitlePart (cleaned max_title title) ∷ []

@@ -39,7 +39,7 @@ basic_value login = codes "Basic " ++ encode_of standard (pair_text login)
 abbrev pub login_line : Login → List ℕ
 login_line login = header_line (codes "Authorization") (basic_value login)
 
--- the same where a login is sent
+-- the same if a login is sent
 abbrev pub login_lines : Option Login → List ℕ
 login_lines None = []
 login_lines (Some login) = login_line login

@@ -16,7 +16,7 @@ name_order = slice_cmp nat_cmp
 abbrev pub with_one : List (List ℕ) → List ℕ → List (List ℕ)
 with_one names name = insert_key name_order names name
 
--- the same where a text is a name
+-- the same if a text is a name
 abbrev pub with_name : List (List ℕ) → List ℕ → List (List ℕ)
 with_name names text = if is_mount_name text then with_one names text else names
 

@@ -12,8 +12,8 @@ use std::alloc::Global;
 /// The longest metadata interval that a master may name, in bytes.
 pub const MAX_INTERVAL: u64 = 16_777_216;
 
-/// The bytes of sound between two metadata blocks (ICY convention, `icy-metaint`), with none where the stream has no
-/// metadata; or the first fault of the head.
+/// Returns how many bytes of sound lie between two metadata blocks (ICY convention, `icy-metaint`). `None` if the
+/// stream has no metadata. The error is the first fault of the head.
 pub fn interval_in(head: &ResponseHead) -> Result<Option<usize>, PullFault>
     ensures value { result ≡ interval_in head.now }
     ensures some { IfOk result (λ interval. IfSome interval (λ n. 1 ≤ n)) }

@@ -73,7 +73,7 @@ struct Brought {
 }
 
 impl Pull {
-    /// A pull of which nothing has come. It keeps `alloc` for what comes.
+    /// Returns a pull before the first byte of its answer. It keeps `alloc` for what comes.
     pub fn new(alloc: Global) -> Pull
         ensures { result ≡ Head [] }
     {

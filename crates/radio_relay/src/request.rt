@@ -21,7 +21,7 @@ const ESCAPED: AsciiSet = ascii_set!(
         .remove(b'/')
 );
 
-/// Where a master lists its streams.
+/// The path of a master's list of streams.
 const STREAM_LIST: &[u8] = b"/admin/streamlist.txt";
 
 /// The request of a relay for its master's mount, as a listener with metadata (ICY convention, `Icy-MetaData`).

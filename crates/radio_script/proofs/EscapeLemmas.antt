@@ -1,4 +1,4 @@
--- What is escaped is read back.
+-- Escaped bytes are read back.
 use Rattle.std.proofs.Common.{◌≡◌, ℕ, ◌+◌, ◌*◌, ◌/◌, ◌%◌, ◌<◌, Bool, true, false, nat_lt, ◌==◌, List, [], ◌∷◌, ◌++◌, Option, Some, None, refl, ap, ◌∙◌, subst}
 use Rattle.std.proofs.Common.{arith, append_assoc, add-one, drop-cons, drop, get_or, length, suc}
 use Rattle.std.specs.List.{flat_map, AllByRecursion}
@@ -74,7 +74,7 @@ unescaped_escaped [] h = refl
 unescaped_escaped (b ∷ bytes) h =
     read_by_return b (flat_map escape_of bytes) h.0 (b == 13) refl ∙ ap (option_map (λ rest. b ∷ rest)) (unescaped_escaped bytes h.1)
 
--- A byte of a text was taken: what was read so far, and what is read from there on, are the same bytes.
+-- One byte of a text was taken. The bytes read so far and those read from there on are the same bytes.
 joined : (bytes more : List ℕ) (o : Option (List ℕ)) → option_map (λ rest. (bytes ++ more) ++ rest) o
     ≡ option_map (λ rest. bytes ++ rest) (option_map (λ rest. more ++ rest) o)
 joined bytes more None = refl

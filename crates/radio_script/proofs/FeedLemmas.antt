@@ -14,7 +14,7 @@ OnTrue-no false P e = tt
 script_lines-onto : (b : ℕ) (script : List ℕ) → (b == 10) ≡ false → script_lines (b ∷ script) ≡ onto_first b (script_lines script)
 script_lines-onto b script e = rw e refl
 
--- a line, its line feed, and the lines behind it
+-- a line, its line feed, and the lines after it
 pub script_lines-line : (line tail : List ℕ) → has_feed line ≡ false → script_lines (line ++ 10 ∷ tail) ≡ line ∷ script_lines tail
 script_lines-line [] tail h = refl
 script_lines-line (b ∷ line) tail h =
@@ -31,7 +31,7 @@ script_lines-last (b ∷ c ∷ line) h some =
     let parts = or_false (b == 10) (has_feed (c ∷ line)) h in
     rw (parts.0, script_lines-last (c ∷ line) parts.1 (omega arith)) refl
 
--- The lines begin with a line that begins so.
+-- The first of the lines begins with this part.
 pub record FirstLine (lines : List (List ℕ)) (part : List ℕ) : Type 0 where
   pub more : List ℕ
   pub others : List (List ℕ)
@@ -41,7 +41,7 @@ onto_first-cons : (b : ℕ) (lines : List (List ℕ)) → FirstLine (onto_first 
 onto_first-cons b [] = record { more = []; others = []; is = refl }
 onto_first-cons b (line ∷ lines) = record { more = line; others = lines; is = refl }
 
--- the first line begins with what stands before the first line feed
+-- the first line begins with the bytes before the first line feed
 pub script_lines-long : (part left : List ℕ) → has_feed part ≡ false → 0 < length part → FirstLine (script_lines (part ++ left)) part
 script_lines-long [] left h some = absurd (omega (arith, some))
 script_lines-long (b ∷ []) left h some =
@@ -52,7 +52,7 @@ script_lines-long (b ∷ c ∷ part) left h some =
     let first = script_lines-long (c ∷ part) left parts.1 (omega arith) in
     record { more = first.more; others = first.others; is = script_lines-onto b (c ∷ part ++ left) parts.0 ∙ ap (onto_first b) first.is }
 
--- Some line, and others behind it.
+-- There is at least one line.
 pub record SomeLine (lines : List (List ℕ)) : Type 0 where
   pub line : List ℕ
   pub others : List (List ℕ)
@@ -66,7 +66,7 @@ SomeLine-cond : (t : Bool) (xs ys : List (List ℕ)) → SomeLine xs → SomeLin
 SomeLine-cond true xs ys h k = h
 SomeLine-cond false xs ys h k = k
 
--- where a byte stands, a line does
+-- a script with at least one byte has at least one line
 pub script_lines-cons : (b : ℕ) (script : List ℕ) → SomeLine (script_lines (b ∷ script))
 script_lines-cons b script =
     SomeLine-cond (b == 10) ([] ∷ script_lines script) (onto_first b (script_lines script))
@@ -105,7 +105,7 @@ script_lines-test : (b : ℕ) (xs ys : List ℕ) (t : Bool) → (b == 10) ≡ t 
 script_lines-test b xs ys true e some h = rw e (ap (λ ls. [] ∷ ls) h)
 script_lines-test b xs ys false e some h = rw e (ap (onto_first b) h ∙ onto_first-append b (script_lines xs) (script_lines ys) some)
 
--- the lines of whole lines, and of what stands behind them
+-- the lines of whole lines, and of the bytes after them
 pub script_lines-append : (xs ys : List ℕ) → IsLines xs → script_lines (xs ++ ys) ≡ script_lines xs ++ script_lines ys
 script_lines-append [] ys h = refl
 script_lines-append (b ∷ []) ys h = subst (λ x. script_lines (x ∷ ys) ≡ script_lines (x ∷ []) ++ script_lines ys) (sym h) refl

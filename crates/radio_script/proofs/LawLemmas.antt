@@ -9,7 +9,7 @@ use Rattle.radio_script.specs.Transcripts.{run_fault}
 use Rattle.radio_script.specs.Laws.{IsDetermined, HasOneTranscript, GoesOnAsItBegan}
 use Rattle.radio_script.proofs.FeedLemmas.{script_lines-append}
 
--- two runs of the same deliveries are one
+-- two runs of the same deliveries are the same
 runs_once : {P : Type 0} (performs : Conduct P) → IsDetermined performs
     → (old : P) (number : ℕ) (deliveries : List Delivery) (text other : List ℕ) (stop halt : Option ℕ) (new next : P)
     → Runs performs old number deliveries text stop new → Runs performs old number deliveries other halt next
@@ -60,7 +60,7 @@ no_fault : (stop : Option ℕ) (fault : Option PlayFault) → None ≡ run_fault
 no_fault None fault e = (refl, sym e)
 no_fault (Some number) fault e = cc
 
--- The deliveries of lines that are not at fault, and of more behind them.
+-- The deliveries of lines without a fault, and of more lines after them.
 record DeliversMore (number : ℕ) (lines more : List (List ℕ)) : Type 0 where
   rest : List Delivery
   is : deliveries_from number (lines ++ more) ≡ deliveries_from number lines ++ rest

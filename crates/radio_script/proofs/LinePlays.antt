@@ -1,4 +1,4 @@
--- What the playing of one line comes to.
+-- The playing of one line.
 use Rattle.std.proofs.Common.{◌≡◌, ℕ, ◌+◌, ◌≤◌, ◌<◌, Bool, false, true, nat_lt, ◌||◌, List, [], ◌∷◌, ◌++◌, length, Option, None, Some, Ok, Err, refl, sym, ap, ◌∙◌}
 use Rattle.std.proofs.Common.{subst, arith, append-nil, append_assoc, length-append, take}
 use Rattle.std.proofs.lemmas.Bool.Decides.{nat_tests}
@@ -31,7 +31,7 @@ pub writes_so : (a b : Option (List ℕ)) (m n : ℕ) (P Q : List ℕ → ℕ �
 writes_so a b m n P Q f w =
     record { written = w.written; most_calls = w.most_calls; appends = w.appends; called = w.called; holds = f w.written w.most_calls w.holds }
 
--- what the reader had is what it gave and what it has left
+-- the bytes that the reader had are those that it gave and those that it has left
 pub known_by : (a b : Option (List ℕ)) (bytes : List ℕ) (Q : List ℕ → List ℕ → Type 0) → Consumes a b bytes
     → ((script left : List ℕ) → script ≡ bytes ++ left → Q script left) → IfKnown a b Q
 known_by None b bytes Q c f = tt
@@ -55,11 +55,11 @@ unwritten performs p number line text (Line n) q h = (h, refl, refl)
 unwritten performs p number line text TooMuch q h = absurd h
 unwritten performs p number line text OutOfMemory q h = (refl, refl)
 
--- a front of a text is what the text starts with
+-- a text starts with each of its fronts
 front_starts : (n : ℕ) (text : List ℕ) → StartsWith text (take n text)
 front_starts n text = ap (λ k. take k text) (length-take n text) ∙ take_min n text
 
--- a line that was performed, whose text was written whole
+-- a line that was performed, and whose text was written whole
 pub written_whole : {P : Type 0} (performs : Conduct P) (p : P) (number : ℕ) (line text bytes : List ℕ) (q : P) (a b : Option (List ℕ)) (m n : ℕ)
     → bytes ≡ text → IsLineResult performs p number line (Ok tt) text q → Appends a b bytes → n ≤ m + length bytes
     → Writes a b m n (λ written most_calls. AnswersLine performs p number line (Ok tt) written most_calls q)
@@ -72,7 +72,7 @@ written_whole performs p number line text bytes q a b m n e performed appends ca
       holds = (subst (λ t. YieldsText performs p number line t q) (sym e) performed, omega arith);
     }
 
--- and one whose text was written in part
+-- a line that was performed, and whose text was written in part
 pub written_in_part : {P : Type 0} (performs : Conduct P) (p : P) (number : ℕ) (line text bytes : List ℕ) (q : P) (a b : Option (List ℕ)) (m n : ℕ)
     → bytes ≡ text → IsLineResult performs p number line (Ok tt) text q → ((k : ℕ) × Appends a b (take k bytes)) → n ≤ m + length bytes
     → Writes a b m n (λ written most_calls. AnswersLine performs p number line (Err Write) written most_calls q)
@@ -101,7 +101,7 @@ none_before performs p number script written most_calls h =
     subst (λ w. IsPlayedBefore performs p number script script w most_calls p) (sym h.0)
     (subst (λ t. IsPlayedBefore performs p number script script [] t p) (sym h.1) (before_all performs p number script))
 
--- more bytes than a line may have, with no line feed among them
+-- more bytes than a line may have, without a line feed
 long_part : {P : Type 0} (performs : Conduct P) (p : P) (number : ℕ) (part left : List ℕ) → has_feed part ≡ false → max_line < length part
     → Plays performs p number (part ++ left) left (Err TooMuch) [] 0 p
 long_part performs p number part left one long =
@@ -113,7 +113,7 @@ long_part performs p number part left one long =
       in_calls = omega arith;
     }
 
--- Plays, where nothing of the line was answered.
+-- The playing of a script, if nothing of its first line was answered.
 pub refused_at_once : {P : Type 0} (performs : Conduct P) (p : P) (number : ℕ) (line : List ℕ) (lines : List (List ℕ)) (script written : List ℕ)
     (most_calls : ℕ) (fault : PlayFault) (q : P)
     → script_lines script ≡ line ∷ lines → IsAtFault performs p number line fault q → (written ≡ []) × (most_calls ≡ 0)
@@ -131,7 +131,7 @@ pub last_answered : {P : Type 0} (performs : Conduct P) (p : P) (number : ℕ) (
 last_answered performs p number line written most_calls q one some h =
     (refl, record { transcript = rw (script_lines-last line one some) (answered_last performs p number line written q h.0); in_calls = h.1 })
 
--- the last line, not answered whole
+-- the last line, if it was not answered whole
 pub last_failed : {P : Type 0} (performs : Conduct P) (p : P) (number : ℕ) (line written : List ℕ) (most_calls : ℕ) (fault : PlayFault) (q : P)
     → has_feed line ≡ false → 0 < length line → AnswersLine performs p number line (Err fault) written most_calls q
     → Plays performs p number line [] (Err fault) written most_calls q
@@ -163,7 +163,7 @@ last_failed performs p number line written most_calls OutOfMemory q one some h =
   subst (λ x. IsPlayedBefore performs p number line x written most_calls p) (sym (append-nil line)) (none_before performs p number line written most_calls h),
 )
 
--- a whole line, not answered whole
+-- a line with its line feed, if it was not answered whole
 pub whole_failed : {P : Type 0} (performs : Conduct P) (p : P) (number : ℕ) (line left written : List ℕ) (most_calls : ℕ) (fault : PlayFault) (q : P)
     → has_feed line ≡ false → AnswersLine performs p number line (Err fault) written most_calls q
     → Plays performs p number (line ++ 10 ∷ left) left (Err fault) written most_calls q
@@ -196,7 +196,7 @@ whole_failed performs p number line left written most_calls OutOfMemory q one h 
       (none_before performs p number (line ++ 10 ∷ left) written most_calls h),
 )
 
--- What a reading that found no line comes to.
+-- The playing, if the reading of a line failed.
 pub reading_failed : {P : Type 0} (performs : Conduct P) (p : P) (number : ℕ) (a b : Option (List ℕ)) (fault : PlayFault) (line : List ℕ)
     → ReadsLine a b (Err fault) line → IfKnown a b (λ script left. Plays performs p number script left (Err fault) [] 0 p)
 reading_failed performs p number a b Read line r =

@@ -1,4 +1,4 @@
--- A transcript is read as one list of lines alone.
+-- The text of a transcript is that of one list of lines alone.
 use Rattle.std.proofs.Common.{◌≡◌, ◌≢◌, ℕ, ◌+◌, ◌/◌, ◌%◌, ◌^◌, ◌<◌, ◌≤◌, Bool, true, false, cond, nat_lt, ◌==◌, List, [], ◌∷◌, ◌++◌, Option, Some, None, refl}
 use Rattle.std.proofs.Common.{sym, ap, ◌∙◌, subst, arith, append_assoc}
 use Rattle.std.specs.Prelude.{if◌then◌else◌}
@@ -21,7 +21,7 @@ use Rattle.radio_script.proofs.EscapeLemmas.{read_by_return, unescaped_escaped}
 abbrev pub Lacks : ℕ → List ℕ → Type 0
 Lacks b text = AllByRecursion (λ c. c ≢ b) text
 
--- what stands before the first byte of this kind, and what behind it
+-- the texts before and after the first byte of this kind
 cut_same : (s : ℕ) (xs ys rest more : List ℕ) → Lacks s xs → Lacks s ys → xs ++ s ∷ rest ≡ ys ++ s ∷ more → (xs ≡ ys) × (rest ≡ more)
 cut_same s [] [] rest more h k e = (refl, cc)
 cut_same s [] (y ∷ ys) rest more h k e = let same : y ≡ s = cc in absurd (k.0 same)
@@ -47,7 +47,7 @@ digits_lack : (ds : List ℕ) → AllDigits 10 ds → Lacks 32 ds
 digits_lack [] h = tt
 digits_lack (d ∷ ds) h = ((λ e. omega (arith, subst (λ x. digit_value x < 10) e h.0)), digits_lack ds h.1)
 
--- no escape holds a line feed
+-- no escape contains a line feed
 
 not_feed : (b : ℕ) → (b == 10) ≡ false → b ≢ 10
 not_feed b f e = let same : (b == 10) ≡ true = ap (λ x. x == 10) e in cc
@@ -72,7 +72,7 @@ unfolding escaped
 escaped_lacks [] = tt
 escaped_lacks (b ∷ bytes) = Lacks-append 10 (escape_of b) (flat_map escape_of bytes) (escape_lacks b) (escaped_lacks bytes)
 
--- what is no byte is read as none
+-- a number that is no byte is not read back
 
 hex_large : (d : ℕ) → 16 ≤ d → hex_value_of (digit_char d) ≡ None
 hex_large d large =
@@ -88,7 +88,7 @@ read_large b rest large =
     let plain : is_unescaped b ≡ false = grind (arith, nat_tests) in
     rw (e13, e10, plain, e92, hex_large (b / 16) (omega arith)) refl
 
--- what some bytes were put in front of
+-- the rest of a list to whose front a byte was added
 front_of : (b : ℕ) (o : Option (List ℕ)) (cs : List ℕ) → option_map (λ bytes. b ∷ bytes) o ≡ Some cs → (ds : List ℕ) × (o ≡ Some ds) × (b ∷ ds ≡ cs)
 front_of b None cs e = cc
 front_of b (Some ds) cs e = (ds, refl, cc)
@@ -112,7 +112,7 @@ escaped_same : (bytes cs : List ℕ) → AllByRecursion (λ b. b < 256) cs → e
 unfolding unescaped escaped
 escaped_same bytes cs h e = read_same bytes cs (ap (unescaped_from Between) e ∙ unescaped_escaped cs h)
 
--- a label and a text, with the line feed behind it
+-- a label and a text, followed by a line feed
 
 labelled_then : (label : ℕ) (text rest : List ℕ) → ((decimal label ++ (32 ∷ text)) ++ (10 ∷ [])) ++ rest ≡ decimal label ++ (32 ∷ (text ++ (10 ∷ rest)))
 labelled_then label text rest =
@@ -135,7 +135,7 @@ word_lacks (b ∷ word) h =
     let parts = or_false (b == 10) (has_feed word) h in
     (not_feed b parts.0, word_lacks word parts.1)
 
--- What the reading of a line rests on: its label, and its word.
+-- What the reading of a line needs: a label of 32 bits, and a word without a line feed.
 abbrev pub IsTold : TranscriptLine → Type 0
 IsTold (out label bytes) = label < 2 ^ 32
 IsTold (shut label word) = (label < 2 ^ 32) × (has_feed word ≡ false)
@@ -152,7 +152,7 @@ shut_then label word rest = ap (λ (xs : List ℕ). 115 ∷ 104 ∷ 117 ∷ 116 
 out_not_shut : (xs ys : List ℕ) → 111 ∷ xs ≢ 115 ∷ ys
 out_not_shut xs ys e = let first : ◌≡◌ {A = ℕ} 111 115 = cc in omega (arith, first)
 
--- two lines with what stands behind them
+-- two lines with the text after them
 line_same : (line other : TranscriptLine) (rest tail : List ℕ) → IsTold line → IsLine other → line_text line ++ rest ≡ line_text other ++ tail
     → (line ≡ other) × (rest ≡ tail)
 line_same (out label bytes) (out other cs) rest tail h k e =
@@ -178,7 +178,7 @@ line_some : (line : TranscriptLine) (rest : List ℕ) → line_text line ++ rest
 line_some (out label bytes) rest e = let is = sym (out_then label bytes rest) ∙ e in cc
 line_some (shut label word) rest e = let is = sym (shut_then label word rest) ∙ e in cc
 
--- the lines that were written are those that are read
+-- the lines that are read from a transcript are those that were written
 pub read_as_told : (lines others : List TranscriptLine) → AllByRecursion IsTold lines → AreLines others → transcript_text lines ≡ transcript_text others → lines ≡ others
 read_as_told [] [] h k e = refl
 read_as_told [] (other ∷ others) h k e = absurd (line_some other (transcript_text others) (sym e))

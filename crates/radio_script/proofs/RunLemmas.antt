@@ -3,7 +3,7 @@ use Rattle.std.proofs.Common.{ℕ, ◌+◌, inl, inr, List, [], ◌∷◌, ◌++
 use Rattle.radio_script.specs.declared.delivery.Delivery.{Delivery}
 use Rattle.radio_script.specs.Runs.{Conduct, Runs}
 
--- What the deliveries left come to from the performer new is what all come to from old, behind the text so far.
+-- After the text so far, what the remaining deliveries yield from the performer new is what all deliveries yield from old.
 abbrev pub RunsOn : {P : Type 0} → Conduct P → P → List Delivery → P → ℕ → List Delivery → List ℕ → Type 0
 RunsOn {P} performs old all new number left so_far =
     (text : List ℕ) (stop : Option ℕ) (last : P) → Runs performs new number left text stop last → Runs performs old 1 all (so_far ++ text) stop last

@@ -15,8 +15,8 @@ use Rattle.radio_script.proofs.FeedLemmas.{script_lines-line, script_lines-cons,
 use Rattle.radio_script.proofs.TranscriptLemmas.{no_lines, answered, too_much}
 use Rattle.radio_script.proofs.LinePlays.{writes_nothing, before_all}
 
--- The whole lines before what is left were played from the performer old to new, and what the lines behind them come to
--- is what the script comes to behind what was written.
+-- The whole lines before the remaining script were played from the performer old to new. What the remaining lines yield is what
+-- the script yields after the bytes written so far.
 pub record Leads {P : Type 0} (performs : Conduct P) (old : P) (first : ℕ) (script : List ℕ) (new : P) (number : ℕ) (left written : List ℕ)
     (most_calls : ℕ) : Type 0 where
   pub front : List ℕ
@@ -53,7 +53,7 @@ Leads-more performs old first script new number before written most_calls left m
           (subst (λ x. IsTranscript performs old first (script_lines (l.front ++ (line ++ 10 ∷ tail))) x fault last) (sym (append_assoc written more text)) all);
     }
 
--- what was played behind the lines so far, from the first line on
+-- what was played after the lines so far, counted from the first line
 played : {P : Type 0} (performs : Conduct P) (old : P) (first : ℕ) (script : List ℕ) (new : P) (number : ℕ) (before written : List ℕ) (most_calls : ℕ)
     (more : List ℕ) (more_calls : ℕ) (fault : Option PlayFault) (last : P)
     → Leads performs old first script new number before written most_calls → IsPlayed performs new number before fault more more_calls last
@@ -114,7 +114,7 @@ cut_off performs old first script new number before written most_calls left more
       );
     }
 
--- the end of the playing behind the lines so far
+-- the end of the playing after the lines so far
 pub ends : {P : Type 0} (performs : Conduct P) (old : P) (first : ℕ) (script : List ℕ) (new : P) (number : ℕ) (before written : List ℕ) (most_calls : ℕ)
     (left more : List ℕ) (more_calls : ℕ) (result : Result (Unit {0}) PlayFault) (last : P)
     → Leads performs old first script new number before written most_calls → Plays performs new number before left result more more_calls last
@@ -152,7 +152,7 @@ writes_then a b c m n o P Q R f p q =
       holds = f p.written p.most_calls q.written q.most_calls p.holds q.holds;
     }
 
--- The reader gave the lines before number, which were played from the performer old to new.
+-- The reader gave the lines before this number. They were played from the performer old to new.
 abbrev pub IsSoFar : {P : Type 0} → Conduct P → P → P → ℕ → Option (List ℕ) → Option (List ℕ) → Option (List ℕ) → Option (List ℕ) → ℕ → ℕ → Type 0
 IsSoFar performs old new number a b c d m n =
     IfKnown a b (λ script left. Writes c d m n (λ written most_calls. Leads performs old 1 script new number left written most_calls))
@@ -196,7 +196,7 @@ none_left before (Err (Line n)) h = h
 none_left before (Err TooMuch) h = h
 none_left before (Err OutOfMemory) h = h
 
--- Behind the last line that a script may have, the reader is looked at once more.
+-- After the last line that a script may have, the reader is called once more.
 looked : {P : Type 0} (performs : Conduct P) (p : P) (number : ℕ) (before left : List ℕ) (result : Result (Unit {0}) PlayFault) → max_lines < number
     → EndsThere (Some before) (Some left) result → Plays performs p number before left result [] 0 p
 looked performs p number before left (Ok u) over h = (

@@ -10,7 +10,7 @@ use Rattle.radio_script.specs.Escapes.{is_unescaped, hex_value_of, step_at, unes
 use Rattle.radio_script.specs.Spelling.{Spells, as_itself, as_return, as_feed, as_backslash, as_digits, SpellsAll, none, more}
 use Rattle.radio_script.proofs.EscapeLemmas.{ReadsAs, read_named, read_plain, three_more}
 
--- ---- what is spelled so is read
+-- ---- every text of the grammar is read
 
 plain_is_no_backslash : (b : ℕ) → is_unescaped b ≡ true → (b == 92) ≡ false
 plain_is_no_backslash b h = grind (arith, nat_tests, h)
@@ -28,9 +28,9 @@ reads_all text bytes none = refl
 reads_all text bytes (more {piece = piece} {text = rest} {bytes = others} {b = b} s t) =
     reads_spelling piece b rest s ∙ ap (option_map (λ ys. b ∷ ys)) (reads_all rest others t)
 
--- ---- what is read is spelled so
+-- ---- every text that is read is of the grammar
 
--- a step and what follows it, where both are there
+-- a step, and the reading of the text after it
 record Stepped (place : EscapePlace) (b : ℕ) (text bytes : List ℕ) : Type 0 where
   step : EscapePlace × Option ℕ
   rest : List ℕ
@@ -56,7 +56,7 @@ stepped Escape b text bytes h = stepped_by Escape b text bytes (step_at Escape b
 stepped High b text bytes h = stepped_by High b text bytes (step_at High b) refl h
 stepped (Low high) b text bytes h = stepped_by (Low high) b text bytes (step_at (Low high) b) refl h
 
--- every shorter text that is read is spelled so
+-- every shorter text that is read is of the grammar
 abbrev AllSpelled : ℕ → Type 0
 AllSpelled n = (text bytes : List ℕ) → length text ≤ n → unescaped_from Between text ≡ Some bytes → SpellsAll text bytes
 
@@ -78,13 +78,13 @@ goes_to place given step text rest bytes e follows all =
       subst (λ (p : EscapePlace × Option ℕ). option_to_list p.1 ++ rest ≡ bytes) same all,
     )
 
--- a byte is whole, and the rest of the text is spelled
+-- a byte is complete, and the rest of the text is of the grammar
 spelled_more : (n : ℕ) → AllSpelled n → (piece : List ℕ) (b : ℕ) (text rest bytes : List ℕ) → length text ≤ n → Spells piece b
     → (unescaped_from Between text ≡ Some rest) × ((b ∷ []) ++ rest ≡ bytes) → SpellsAll (piece ++ text) bytes
 spelled_more n all piece b text rest bytes h s r =
     subst (λ ys. SpellsAll (piece ++ text) ys) r.1 (more s (all text rest h r.0))
 
--- behind `\xH`
+-- after `\xH`
 spelled_low : (n : ℕ) → AllSpelled n → (high first : ℕ) (text bytes : List ℕ) → length text ≤ n → hex_value_of high ≡ Some first
     → unescaped_from (Low high) text ≡ Some bytes → SpellsAll (92 ∷ 120 ∷ high ∷ text) bytes
 spelled_low n all high first [] bytes h x e = cc
@@ -95,7 +95,7 @@ spelled_low n all high first (low ∷ text) bytes h x e =
     spelled_more n all (92 ∷ 120 ∷ high ∷ low ∷ []) (one.0 * 16 + two.0) text s.rest bytes (omega arith) (as_digits one.1 two.1)
     (goes_to Between (Some (one.0 * 16 + two.0)) s.step text s.rest bytes two.2 s.follows s.all)
 
--- behind `\x`
+-- after `\x`
 spelled_high : (n : ℕ) → AllSpelled n → (text bytes : List ℕ) → length text ≤ n → unescaped_from High text ≡ Some bytes → SpellsAll (92 ∷ 120 ∷ text) bytes
 spelled_high n all [] bytes h e = cc
 spelled_high n all (high ∷ text) bytes h e =
@@ -104,7 +104,7 @@ spelled_high n all (high ∷ text) bytes h e =
     let r = goes_to (Low high) None s.step text s.rest bytes one.2 s.follows s.all in
     spelled_low n all high one.0 text bytes (omega arith) one.1 (r.0 ∙ ap Some r.1)
 
--- behind a backslash
+-- after a backslash
 spelled_named : (n : ℕ) → AllSpelled n → (c v : ℕ) (text bytes : List ℕ) → length text ≤ n → Spells (92 ∷ c ∷ []) v → (s : Stepped Escape c text bytes)
     → Some (Between, Some v) ≡ Some s.step → SpellsAll (92 ∷ c ∷ text) bytes
 spelled_named n all c v text bytes h spells s e =

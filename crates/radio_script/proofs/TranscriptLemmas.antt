@@ -8,11 +8,11 @@ use Rattle.radio_script.specs.Runs.{Conduct, Runs}
 use Rattle.radio_script.specs.Transcripts.{run_fault, IsTranscript}
 use Rattle.radio_script.specs.Answers.{YieldsText, IsAtFault}
 
--- no line comes to no text
+-- no lines yield no text
 pub no_lines : {P : Type 0} (performs : Conduct P) (p : P) (number : ℕ) → IsTranscript performs p number [] [] None p
 no_lines performs p number = record { stop = None; run = (refl, refl, refl); ends = refl }
 
--- A line that is answered, and then the lines behind it.
+-- A line that is answered, and then the lines after it.
 pub answered : {P : Type 0} (performs : Conduct P) (p : P) (number : ℕ) (line first : List ℕ) (between : P) (lines : List (List ℕ)) (rest : List ℕ)
     (fault : Option PlayFault) (q : P)
     → YieldsText performs p number line first between → IsTranscript performs between (number + 1) lines rest fault q
@@ -25,7 +25,7 @@ answered performs p number line first between lines rest fault q a t =
       ends = subst (λ m. fault ≡ run_fault t.stop (fault_or m (fault_from (number + 1) lines))) (sym a.means) t.ends;
     }
 
--- A line that is at fault: nothing behind it is played.
+-- A line with a fault: nothing after it is played.
 pub at_fault : {P : Type 0} (performs : Conduct P) (p : P) (number : ℕ) (line : List ℕ) (lines : List (List ℕ)) (fault : PlayFault) (q : P)
     → IsAtFault performs p number line fault q → IsTranscript performs p number (line ∷ lines) [] (Some fault) q
 at_fault performs p number line lines fault q (inl m) =
@@ -42,14 +42,14 @@ at_fault performs p number line lines fault q (inr s) =
       ends = ap Some s.here;
     }
 
--- the last line, answered
+-- the last line, if it is answered
 pub answered_last : {P : Type 0} (performs : Conduct P) (p : P) (number : ℕ) (line text : List ℕ) (q : P)
     → YieldsText performs p number line text q → IsTranscript performs p number (line ∷ []) text None q
 answered_last performs p number line text q a =
     subst (λ t. IsTranscript performs p number (line ∷ []) t None q) (append-nil text)
     (answered performs p number line text q [] [] None q a (no_lines performs q (number + 1)))
 
--- A line that is too long, or that comes after the last that a script may have.
+-- A line that is too long, or that follows the last line that a script may have.
 pub too_much : {P : Type 0} (performs : Conduct P) (p : P) (number : ℕ) (line : List ℕ) (lines : List (List ℕ))
     → (nat_lt max_lines number || nat_lt max_line (length line)) ≡ true → IsTranscript performs p number (line ∷ lines) [] (Some TooMuch) p
 unfolding meaning_of

@@ -1,4 +1,4 @@
--- What the answering of one line does.
+-- The answering of one line.
 use Rattle.std.specs.Prelude.{ℕ, ◌≡◌, ◌≤◌, ◌⊎◌, Bool, true, false, List, [], ◌∷◌, ◌++◌, length, None, Some, Result, Ok, Err, ⊤}
 use Rattle.std.specs.Io.{StartsWith}
 use Rattle.radio_script.specs.declared.delivery.Delivery.{Delivery}
@@ -9,15 +9,15 @@ use Rattle.radio_script.specs.Script.{meaning_of}
 use Rattle.radio_script.specs.Runs.{Conduct}
 use Rattle.radio_script.specs.Plays.{Plays}
 
--- The line of this number is answered by the performer old.
+-- The performer old answers the line of this number.
 module _ {P : Type 0} (performs : Conduct P) (old : P) (number : ℕ) where
-  -- The line is a delivery, which yields this text.
+  -- The line is a delivery, and yields this text.
   pub record YieldsText (line text : List ℕ) (new : P) : Type 0 where
     pub delivery : Delivery
     pub means : meaning_of number line ≡ Ok delivery
     pub performed : performs old delivery (Some text) new
 
-  -- The line is a delivery whose label is at fault.
+  -- The line is a delivery that the performer refuses.
   pub record IsStopped (line : List ℕ) (fault : PlayFault) (new : P) : Type 0 where
     pub delivery : Delivery
     pub means : meaning_of number line ≡ Ok delivery
@@ -33,21 +33,21 @@ module _ {P : Type 0} (performs : Conduct P) (old : P) (number : ℕ) where
   abbrev pub IsAtFault : List ℕ → PlayFault → P → Type 0
   IsAtFault line fault new = IsMeaningless line fault new ⊎ IsStopped line fault new
 
-  -- The line was performed, with this text for its transcript, or it was not.
+  -- The line was performed, and this text is its transcript. Or it was not performed.
   abbrev pub IsLineResult : List ℕ → Result (Unit {0}) PlayFault → List ℕ → P → Type 0
   IsLineResult line (Ok done) text new = YieldsText line text new
   IsLineResult line (Err (Line here)) text new = IsAtFault line (Line here) new
   IsLineResult line (Err OutOfMemory) text new = ⊤
   IsLineResult line (Err fault) text new = ⊥
 
-  -- The text was written as far as it could be, in at most one call for each byte of it.
+  -- A front of the text was written, in at most one call for each byte of the text.
   pub record IsWrittenInPart (line written : List ℕ) (most_calls : ℕ) (new : P) : Type 0 where
     pub text : List ℕ
     pub answer : YieldsText line text new
     pub front : StartsWith text written
     pub in_calls : most_calls ≤ length text
 
-  -- The line was answered, or it was not.
+  -- The line was answered. Or it was not, and at most a part of its text was written.
   abbrev pub AnswersLine : List ℕ → Result (Unit {0}) PlayFault → List ℕ → ℕ → P → Type 0
   AnswersLine line (Ok done) written most_calls new = YieldsText line written new × (most_calls ≤ length written)
   AnswersLine line (Err (Line here)) written most_calls new =
@@ -64,7 +64,7 @@ module _ {P : Type 0} (performs : Conduct P) (old : P) (number : ℕ) where
     pub answer : YieldsText line written new
     pub in_calls : most_calls ≤ length written
 
-  -- The next line was played and there may be more, or the script was played to its end.
+  -- The next line was played and there may be more, or the script was played to its end, or the playing failed.
   abbrev pub PlaysLine : List ℕ → List ℕ → Result Bool PlayFault → List ℕ → ℕ → P → Type 0
   PlaysLine script left (Ok true) written most_calls new = IsLinePlayed script left written most_calls new
   PlaysLine script left (Ok false) written most_calls new =

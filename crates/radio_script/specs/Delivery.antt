@@ -1,4 +1,4 @@
--- The lines of a script, each a delivery: a word and its fields, parted by one space.
+-- The lines of a script. Each line is a delivery: a word and its fields, separated by one space.
 use Rattle.std.specs.Prelude.{ℕ, nat_lt, List, Option, Some, None, if◌then◌else◌}
 use Rattle.std.specs.Str.{bytes_eq}
 use Rattle.std.specs.Prelude.{codes}
@@ -11,7 +11,7 @@ use Rattle.radio_texts.specs.Numbers.{number_of}
 use Rattle.radio_addr.specs.Addresses.{peer_of}
 use Rattle.radio_script.specs.Escapes.{unescaped}
 
--- a number of 32 bits in decimal, with zeros in front let through
+-- a number of 32 bits in decimal; leading zeros are allowed
 abbrev pub decimal_of : List ℕ → Option ℕ
 decimal_of text = number_of 10 4294967295 text
 
@@ -76,7 +76,7 @@ clock_of fields = do
   ms ← number_of 10 18446744073709551615 fields
   Some (Clock ms)
 
--- the delivery of one of these words and its fields, if they are one
+-- the delivery of one of these words and its fields, if they mean one
 abbrev pub other_fields_of : List ℕ → List ℕ → Option Delivery
 other_fields_of word fields =
     if bytes_eq word (codes "title") then title_delivery fields else
@@ -91,7 +91,7 @@ delivery_of_fields word fields =
     (if bytes_eq word (codes "in") then in_of fields else
     (if bytes_eq word (codes "room") then room_of fields else other_fields_of word fields))
 
--- the delivery that a line writes, if it is one
+-- the delivery that a line means, if it means one
 -- rule: Line of a script
 unfoldable pub delivery_of : List ℕ → Option Delivery
 delivery_of line = do

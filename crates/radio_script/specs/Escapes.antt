@@ -1,5 +1,5 @@
 -- How the bytes of a delivery are written in a script and in a transcript. The bytes 0x20 to 0x7E
--- other than the backslash are written as they are, the others behind a backslash.
+-- other than the backslash are written as they are, the others as escapes.
 use Rattle.std.specs.Prelude.{ℕ, ◌+◌, ◌*◌, ◌/◌, ◌%◌, nat_lt, nat_le, ◌==◌, ◌&&◌, not, Bool, List, [], ◌∷◌, ◌++◌, Option, Some, None, if◌then◌else◌}
 use Rattle.std.specs.Option.{option_map, option_to_list}
 use Rattle.std.specs.Char.{digit_value, digit_char}
@@ -30,8 +30,8 @@ escaped bytes = flat_map escape_of bytes
 abbrev pub hex_value_of : ℕ → Option ℕ
 hex_value_of b = if nat_lt (digit_value b) 16 then Some (digit_value b) else None
 
--- What one byte of a text does at each place of its reading: where the reading goes on, and the
--- byte that is whole now.
+-- What one byte of a text means, by what the reading expects: what it expects next, and the byte that
+-- is complete now, if any.
 abbrev pub step_at : EscapePlace → ℕ → Option (EscapePlace × Option ℕ)
 step_at Between b =
     if b == 92 then Some (Escape, None) else (if is_unescaped b then Some (Between, Some b) else None)
@@ -48,7 +48,7 @@ step_at (Low high) b = do
   second ← hex_value_of b
   Some (Between, Some (first * 16 + second))
 
--- the bytes that the rest of a text writes, read from this place on
+-- the bytes that the rest of a text writes, if the reading expects this
 abbrev pub unescaped_from : EscapePlace → List ℕ → Option (List ℕ)
 unescaped_from Between [] = Some []
 unescaped_from place [] = None

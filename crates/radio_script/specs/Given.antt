@@ -1,4 +1,4 @@
--- What a transcript says that each connection was given.
+-- The bytes that each connection was given, by a transcript.
 use Rattle.std.specs.Prelude.{ℕ, ◌≡◌, ◌==◌, ◌<◌, ◌^◌, false, List, [], if◌then◌else◌}
 use Rattle.std.specs.List.{flat_map, AllByRecursion}
 use Rattle.radio_script.specs.Feeds.{has_feed}
@@ -17,7 +17,7 @@ line_text (shut label word) = shut_line label word
 abbrev pub transcript_text : List TranscriptLine → List ℕ
 transcript_text lines = flat_map line_text lines
 
--- a line of a transcript: a label that can be opened, bytes, and a word without a line feed
+-- the line has a label that can be opened, bytes, and a word without a line feed
 abbrev pub IsLine : TranscriptLine → Type 0
 IsLine (out label bytes) = (label < 2 ^ 32) × AllByRecursion (λ b. b < 256) bytes
 IsLine (shut label word) = (label < 2 ^ 32) × (has_feed word ≡ false)
@@ -29,6 +29,6 @@ abbrev pub given_in : TranscriptLine → ℕ → List ℕ
 given_in (out his bytes) label = (if his == label then bytes else [])
 given_in (shut his word) label = []
 
--- what the connection's `out` lines hold, joined in their order
+-- the bytes of the connection's `out` lines, joined in their order
 abbrev pub given : List TranscriptLine → ℕ → List ℕ
 given lines label = flat_map (λ line. given_in line label) lines

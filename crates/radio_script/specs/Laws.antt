@@ -23,7 +23,7 @@ HasOneTranscript {P} performs =
     → IsTranscript performs old number lines other failure next
     → (text ≡ other) × (fault ≡ failure) × (new ≡ next)
 
--- the transcript of whole lines is a front of that with more lines behind them
+-- more lines at the end change nothing before them: the transcript of whole lines is a front of that of more lines
 abbrev pub GoesOnAsItBegan : {P : Type 0} → Conduct P → Type 0
 GoesOnAsItBegan {P} performs =
     (old : P) (number : ℕ) (lines rest text whole : List ℕ)

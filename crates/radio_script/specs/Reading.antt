@@ -9,7 +9,7 @@ use Rattle.radio_script.specs.declared.faults.PlayFault.TheVariants.{Read, Write
 use Rattle.radio_script.specs.declared.reading.LineRead.{LineRead}
 use Rattle.radio_script.specs.declared.reading.LineRead.TheVariants.{Whole, Last, Nothing, TooLong}
 
--- The reader, known by the bytes that it had and has left, gave a line, or what of it came.
+-- The reader gave a line, or a part of it. Both are known if the bytes are known that it had and has left.
 abbrev pub ReadsLine : Option (List ℕ) → Option (List ℕ) → Result LineRead PlayFault → List ℕ → Type 0
 -- the line and its line feed
 ReadsLine old new (Ok Whole) line =
@@ -23,19 +23,19 @@ ReadsLine old new (Ok Nothing) line = Consumes old new [] × IsAtEnd new
 -- more bytes than a line may have, and no line feed
 ReadsLine old new (Ok TooLong) line =
     (part : List ℕ) × Consumes old new part × (has_feed part ≡ false) × (max_line < length part)
--- less than a line was read when the reader failed, or when memory ran out
+-- the reader failed, or memory was refused, within a line
 ReadsLine old new (Err Read) line =
     (part : List ℕ) × Consumes old new part × (has_feed part ≡ false)
 ReadsLine old new (Err OutOfMemory) line =
     (part : List ℕ) × Consumes old new part × (has_feed part ≡ false)
 ReadsLine old new (Err fault) line = ⊥
 
--- the reader's failures once more only if the fault is the reader's
+-- the reader has one failure more exactly if the fault is the reader's
 abbrev pub reader_failures : {A : Type 0} → Result A PlayFault → ℕ → ℕ
 reader_failures (Err Read) n = bumped n
 reader_failures result n = n
 
--- the writer's failures once more only if the fault is the writer's
+-- the writer has one failure more exactly if the fault is the writer's
 abbrev pub writer_failures : {A : Type 0} → Result A PlayFault → ℕ → ℕ
 writer_failures (Err Write) n = bumped n
 writer_failures result n = n

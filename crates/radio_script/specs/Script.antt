@@ -14,7 +14,7 @@ abbrev pub script_lines : List ℕ → List (List ℕ)
 script_lines [] = []
 script_lines (b ∷ script) = if b == 10 then [] ∷ script_lines script else onto_first b (script_lines script)
 
--- what the line of that number means: a delivery, or the line's fault
+-- the meaning of the line of this number: a delivery, or the line's fault
 -- rule: Line of a script
 unfoldable pub meaning_of : ℕ → List ℕ → Result Delivery PlayFault
 meaning_of number line =
@@ -22,23 +22,23 @@ meaning_of number line =
     then Err TooMuch
     else ok_or (delivery_of line) (Line number)
 
--- a delivery and those that follow, if it is one
+-- a delivery and those that follow, or none after a fault
 abbrev pub onto_delivery : Result Delivery PlayFault → List Delivery → List Delivery
 onto_delivery (Ok delivery) deliveries = delivery ∷ deliveries
 onto_delivery (Err fault) deliveries = []
 
--- what the lines deliver, up to the first that is at fault; the first line has this number
+-- the deliveries of the lines, up to the first line with a fault; the first line has this number
 abbrev pub deliveries_from : ℕ → List (List ℕ) → List Delivery
 deliveries_from number [] = []
 deliveries_from number (line ∷ lines) =
     onto_delivery (meaning_of number line) (deliveries_from (number + 1) lines)
 
--- the fault, or else that of what follows
+-- the fault of the first line, or else that of the lines that follow
 abbrev pub fault_or : Result Delivery PlayFault → Option PlayFault → Option PlayFault
 fault_or (Ok delivery) next = next
 fault_or (Err fault) next = Some fault
 
--- the fault of the first line that is at fault
+-- the fault of the first line that has one
 abbrev pub fault_from : ℕ → List (List ℕ) → Option PlayFault
 fault_from number [] = None
 fault_from number (line ∷ lines) = fault_or (meaning_of number line) (fault_from (number + 1) lines)

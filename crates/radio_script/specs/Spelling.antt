@@ -2,7 +2,8 @@
 use Rattle.std.specs.Prelude.{ℕ, ◌≡◌, ◌+◌, ◌*◌, true, List, [], ◌∷◌, ◌++◌, Some}
 use Rattle.radio_script.specs.Escapes.{is_unescaped, hex_value_of}
 
--- the text writes the byte: as itself, or as `\r`, `\n`, `\\`, `\xHH` in either case
+-- the text writes the byte: as itself, or as `\r`, `
+-- `, `\\`, or `\xHH` in either case
 pub data Spells : List ℕ → ℕ → Type 0 where
   as_itself : {b : ℕ} → is_unescaped b ≡ true → Spells (b ∷ []) b
   as_return : Spells (92 ∷ 114 ∷ []) 13

@@ -3,20 +3,20 @@ use Rattle.std.specs.Prelude.{ℕ, List, [], ◌∷◌, ◌++◌, Option, None, 
 use Rattle.std.specs.Fmt.{decimal}
 use Rattle.radio_script.specs.Escapes.{escaped}
 
--- `out C TEXT`: the bytes that connection C was given
+-- `out C TEXT`: the bytes that were written to connection C
 unfoldable pub out_line : ℕ → List ℕ → List ℕ
 out_line label bytes = codes "out " ++ decimal label ++ 32 ∷ escaped bytes ++ 10 ∷ []
 
--- `shut C WORD`: connection C was shut, for that reason
+-- `shut C WORD`: connection C was shut with this word
 unfoldable pub shut_line : ℕ → List ℕ → List ℕ
 shut_line label word = codes "shut " ++ decimal label ++ 32 ∷ word ++ 10 ∷ []
 
--- an `out` line where bytes were given
+-- an `out` line if bytes were written
 abbrev pub out_lines : ℕ → List ℕ → List ℕ
 out_lines label [] = []
 out_lines label (b ∷ bytes) = out_line label (b ∷ bytes)
 
--- a `shut` line where the connection was shut
+-- a `shut` line if the connection was shut
 abbrev pub shut_lines : ℕ → Option (List ℕ) → List ℕ
 shut_lines label None = []
 shut_lines label (Some word) = shut_line label word

@@ -1,4 +1,4 @@
-//! What a script delivers, a line each.
+//! Reads the lines of a script: each is a delivery. Read [`read_delivery`] first.
 
 ghost use Rattle.std.specs.Prelude.{◌≡◌, IfOk};
 ghost use Rattle.radio_script.specs.Delivery.{clock_of, decimal_of, delivery_of, delivery_of_fields, end_delivery, in_of, label_of, open_of, other_fields_of, pull_of, room_of, text_fields, title_delivery};
@@ -10,34 +10,34 @@ use radio_addr::{Peer, read_peer};
 use radio_texts::{cut, read_number};
 use std::alloc::Global;
 
-/// What arrives on a connection that is open.
+/// What arrives on an open connection.
 #[derive(Drop)]
 pub enum Input {
-    /// Bytes arrive on it.
+    /// These bytes arrive.
     Data(Bytes),
-    /// There is room for so many bytes of data on it.
+    /// The connection has room for this many bytes of data.
     Room(u32),
-    /// Its source names what is on the air.
+    /// The connection's source names the title that plays.
     Title(Bytes),
-    /// The peer has closed it.
+    /// The peer closes the connection.
     End,
 }
 
-/// What happens, a line of a script each. Connections are named by labels, from 1 on.
+/// One line of a script. A label, from 1 on, names a connection.
 #[derive(Drop)]
 pub enum Delivery {
     /// The connection arrives.
     Open { label: u32, peer: Peer },
-    /// The relay of this local mount connects to its master: the connection is its pull.
+    /// The relay of this local mount connects to its master. The connection is its pull.
     Pull { label: u32, mount: Bytes },
-    /// Something arrives on a connection.
+    /// Something arrives on an open connection.
     To { label: u32, input: Input },
-    /// It is so many milliseconds since the server's start.
+    /// The clock shows this many milliseconds since the server's start.
     Clock { ms: u64 },
 }
 
-/// Returns the delivery that a line of a script writes; `None` if it writes none. The line is given
-/// without its line feed.
+/// Returns the delivery that a line of a script means, or `None` if it means none. The line has no
+/// line feed. `OutOfMemory` if memory was refused.
 #[tactic(auto, unfolding(crate::specs::Delivery::delivery_of))]
 pub fn read_delivery(alloc: Global, line: &[u8]) -> Result<Option<Delivery>, OutOfMemory>
     ensures { IfOk result (λ delivery. delivery ≡ delivery_of line.now) }
@@ -63,7 +63,7 @@ fn read_fields(alloc: Global, word: &[u8], fields: &[u8]) -> Result<Option<Deliv
     read_other_fields(alloc, word, fields)
 }
 
-/// The same of a word that opens nothing, brings nothing and gives no room.
+/// Reads the fields of any word other than `open`, `in` and `room`.
 fn read_other_fields(
     alloc: Global,
     word: &[u8],
@@ -136,7 +136,7 @@ fn read_title(alloc: Global, fields: &[u8]) -> Result<Option<Delivery>, OutOfMem
     }
 }
 
-/// A label and the bytes that a text writes.
+/// Returns a label and the bytes of the text after it, or `None` if the fields are not of this form.
 #[tactic(auto, unfolding(crate::specs::Delivery::text_fields))]
 fn read_text(alloc: Global, fields: &[u8]) -> Result<Option<(u32, Bytes)>, OutOfMemory>
     ensures { IfOk result (λ read. read ≡ text_fields fields.now) }
@@ -193,7 +193,7 @@ fn read_label(text: &[u8]) -> Option<u32>
     if label == 0 { None } else { Some(label) }
 }
 
-// The number that a text writes in decimal, if it is one of 32 bits.
+// Returns the decimal number of a text, if it fits in 32 bits.
 fn read_decimal(text: &[u8]) -> Option<u32>
     ensures { result ≡ decimal_of text.now }
 {

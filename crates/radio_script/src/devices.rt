@@ -1,5 +1,5 @@
-//! Readers and writers that count how often they were called and how often they failed, so that a
-//! contract can bound the calls and say that a fault is the device's own.
+//! Readers and writers that count their calls and their failures. So a contract can bound the calls, and say
+//! that a fault is the device's own.
 
 ghost use Rattle.std.specs.Prelude.{◌≡◌, ◌<◌, ◌≤◌, ℕ, Bool, true, length, IfOk, OnOk, OnErr};
 ghost use Rattle.std.specs.Io.{ReadsAtMost};
@@ -9,29 +9,29 @@ ghost use Rattle.radio_script.specs.Devices.{bumped};
 use std::io;
 use std::io::{Read, Write};
 
-/// A device that counts its calls and its failures. Each count stops at the highest number of 64
+/// A device that counts its calls and its failures. Each count stops at the largest number of 64
 /// bits.
 pub trait Counted {
-    // How often it was called to read or to write.
+    // The number of calls to read or to write.
     ghost calls: { Self → ℕ };
 
-    // How often it failed.
+    // The number of failures.
     ghost failures: { Self → ℕ };
 
-    /// How often the device was called to read or to write.
+    /// Returns how often the device was called to read or to write.
     fn call_count(&self) -> u64
         ensures { result ≡ calls self.now };
 
-    /// How often the device failed. A flush may fail too, though it is not counted as a call.
+    /// Returns how often the device failed. A flush may fail too, but is not counted as a call.
     fn failure_count(&self) -> u64
         ensures { result ≡ failures self.now };
 }
 
-/// A reader that counts.
+/// A reader that counts its calls and its failures.
 pub trait CountedRead: Read + Counted {
-    /// Reads some bytes into the buffer, and counts the call. At `Ok(n)` the first `n` bytes of
-    /// the buffer are those read; `Ok(0)` with room in the buffer is the reader's end. Each `Err`
-    /// is a failure, an interrupted call too.
+    /// Reads some bytes into the buffer, and counts the call. With `Ok(n)` the first `n` bytes of
+    /// the buffer were read. `Ok(0)` is the reader's end, if the buffer has room. Each `Err`
+    /// is a failure, also that of an interrupted call.
     fn read_counted(&mut self, buffer: &mut [u8]) -> io::Result<usize>
         ensures bound { ReadsAtMost result buffer.new }
         ensures bytes { ReadConsumes (Self.remaining self.old) (Self.remaining self.new)
@@ -41,13 +41,13 @@ pub trait CountedRead: Read + Counted {
         ensures err { OnErr result (Self.failures self.new ≡ bumped (Self.failures self.old)) };
 }
 
-/// A writer that counts.
+/// A writer that counts its calls and its failures.
 pub trait CountedWrite: Write + Counted {
     // Whether all that was written has reached its destination.
     ghost is_flushed: { Self → Bool };
 
-    /// Writes some bytes from the buffer's front, and counts the call. At `Ok(n)` the first `n`
-    /// bytes were written. Each `Err` is a failure, an interrupted call too, and a write that
+    /// Writes some bytes from the buffer's front, and counts the call. With `Ok(n)` the first `n`
+    /// bytes were written. Each `Err` is a failure, also that of an interrupted call. A write that
     /// takes nothing is an `Err`.
     fn write_counted(&mut self, buffer: &[u8]) -> io::Result<usize>
         requires { 0 < length buffer.now }
@@ -59,7 +59,7 @@ pub trait CountedWrite: Write + Counted {
         ensures ok { OnOk result (Self.failures self.new ≡ Self.failures self.old) }
         ensures err { OnErr result (Self.failures self.new ≡ bumped (Self.failures self.old)) };
 
-    /// Sends on what the writer may have kept back. This is not counted as a call; an `Err` is a
+    /// Flushes the writer, so that it keeps nothing back. This is not counted as a call. An `Err` is a
     /// failure.
     fn flush_counted(&mut self) -> io::Result<()>
         ensures bytes { Keeps (Self.contents self.old) (Self.contents self.new) }

@@ -1,5 +1,6 @@
-//! How bytes are written in a line of text: `\r`, `\n`, `\\`, `\xHH`, and the rest of 0x20 to 0x7E
-//! as they are.
+//! How bytes are written in a line of text: `\r`, `
+//! `, `\\`, `\xHH`, and 0x20 to 0x7E without the
+//! backslash as they are. Read [`unescape`] and [`push_escaped`] first.
 
 ghost use Rattle.std.specs.Prelude.{◌≡◌, ◌<◌, ◌++◌, IfOk, OnOk, OnErr, IfSome, MatchOption, None, Some};
 ghost use Rattle.std.specs.Option.{option_to_list};
@@ -11,21 +12,21 @@ use crate::OutOfMemory;
 use bytes::Bytes;
 use std::alloc::Global;
 
-/// How far the reading of a text has come.
+/// What the reading of a text expects next.
 #[derive(Clone, Copy)]
 pub enum EscapePlace {
-    /// Between the spellings of two bytes.
+    /// The first byte of an escape, or a byte that is written as it is.
     Between,
-    /// Behind a backslash.
+    /// The byte after a backslash.
     Escape,
-    /// Behind `\x`.
+    /// The first digit after `\x`.
     High,
-    /// Behind `\xH`, with the digit.
+    /// The second digit after `\xH`. It has the first digit.
     Low(u8),
 }
 
-/// Returns the bytes that a text writes; `None` if a backslash begins no escape, or if the text has
-/// a byte that is neither a backslash nor of 0x20 to 0x7E.
+/// Returns the bytes that a text writes. `None` if a backslash begins no escape, or if the text has
+/// a byte that is neither a backslash nor of 0x20 to 0x7E. `OutOfMemory` if memory was refused.
 // rule: Escapes
 pub fn unescape(alloc: Global, text: &[u8]) -> Result<Option<Bytes>, OutOfMemory>
     ensures { IfOk result (λ bytes. bytes ≡ unescaped text.now) }
@@ -44,8 +45,8 @@ pub fn unescape(alloc: Global, text: &[u8]) -> Result<Option<Bytes>, OutOfMemory
     }
 }
 
-// Goes one byte on in a text: adds the byte that is whole now, if one is, and says where the
-// reading goes on.
+// Takes the next byte of a text. Adds the byte that it completes, if any, and returns what the
+// reading expects next.
 fn take_byte(
     bytes: &mut Vec<u8>,
     place: EscapePlace,
@@ -113,7 +114,7 @@ fn step_behind_digits(high: u8, low: u8) -> Option<(EscapePlace, Option<u8>)>
     Some((EscapePlace::Between, Some(first * 16 + second)))
 }
 
-// The value of a hexadecimal digit, in either case.
+// Returns the value of a hexadecimal digit in either case.
 fn hex_value(b: u8) -> Option<u8>
     ensures value { result ≡ hex_value_of b }
     ensures small { IfSome result (λ value. value < 16) }
@@ -126,7 +127,7 @@ fn hex_value(b: u8) -> Option<u8>
     }
 }
 
-/// Adds the text that writes the bytes. After an `Err` a part of it may be at the end.
+/// Appends the text that writes the bytes. After an `Err` a part of that text may be at the end.
 // rule: Escapes
 pub fn push_escaped(text: &mut Vec<u8>, bytes: &[u8]) -> Result<(), OutOfMemory>
     ensures ok { OnOk result (text.new.items ≡ text.old.items ++ escaped bytes.now) }
@@ -151,7 +152,7 @@ fn push_escape(text: &mut Vec<u8>, b: u8) -> Result<(), OutOfMemory>
     }
 }
 
-// A hexadecimal digit in lower case.
+// Returns the hexadecimal digit of a value, in lower case.
 fn hex_digit(value: u8) -> u8
     requires { value < 16 }
     ensures { result ≡ digit_char value }

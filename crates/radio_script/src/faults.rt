@@ -5,7 +5,7 @@ use thiserror::Error;
 
 /// Why a script was not played to its end.
 ///
-/// `Display` writes it in words: `read fault`, `write fault`, `script line N`, `script too long`,
+/// `Display` writes the fault in words: `read fault`, `write fault`, `script line N`, `script too long`,
 /// `out of memory`.
 #[derive(Clone, Copy, Debug, PartialEq, Eq)]
 pub enum PlayFault {
@@ -13,8 +13,8 @@ pub enum PlayFault {
     Read,
     /// The writer failed.
     Write,
-    /// A line is no delivery, or opens a label twice or names one that was not opened. Lines are
-    /// counted from 1.
+    /// The line of this number, counted from 1, is no delivery. Or it opens a label twice, names one that was not
+    /// opened, or pulls for a mount that no relay feeds.
     Line { number: u32 },
     /// The script has more than 1,000,000 lines, or a line of more than 65,536 bytes.
     TooMuch,
@@ -44,8 +44,8 @@ impl error::Error for PlayFault {}
 /// Why a list of deliveries was not performed to its end.
 #[derive(Clone, Copy, Debug, PartialEq, Eq, Error)]
 pub enum RunFault {
-    /// A delivery opens a label twice, names one that was not opened, or pulls for a mount that no
-    /// relay feeds. Deliveries are counted from 1.
+    /// The performer refuses the delivery of this number, counted from 1. It opens a label twice, names one that was
+    /// not opened, or pulls for a mount that no relay feeds.
     #[error("delivery {number}")]
     Delivery { number: usize },
     /// Memory ran out.
@@ -56,7 +56,7 @@ pub enum RunFault {
 /// Why a delivery was not performed.
 #[derive(Clone, Copy, Debug, PartialEq, Eq, Error)]
 pub enum PerformFault {
-    /// It opens a label twice, names one that was not opened, or pulls for a mount that no relay feeds.
+    /// The delivery opens a label twice, names one that was not opened, or pulls for a mount that no relay feeds.
     #[error("a label that was not opened, or was opened twice, or a mount that no relay feeds")]
     Label,
     /// Memory ran out.

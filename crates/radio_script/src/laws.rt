@@ -1,4 +1,4 @@
-//! Laws of the definitions: functions that do nothing, each with a law for its contract.
+//! Laws of scripts, for every performer. They run no code.
 
 ghost use Rattle.radio_script.specs.Laws.{GoesOnAsItBegan, HasOneTranscript, IsDetermined};
 
@@ -9,8 +9,8 @@ pub fn scripts_have_one_transcript<P: Performer>()
     ensures { IsDetermined P.performs → HasOneTranscript P.performs }
 {}
 
-/// If each delivery has one result, the transcript of the whole lines at a script's front is a
-/// front of its transcript: more lines behind them change nothing.
+/// If each delivery has one result, more lines at a script's end change nothing before them: the transcript of
+/// its first whole lines is a front of the whole transcript.
 pub fn transcripts_go_on_as_they_began<P: Performer>()
     ensures { IsDetermined P.performs → GoesOnAsItBegan P.performs }
 {}

@@ -1,14 +1,15 @@
-//! Scripts, whatever performs them: from the lines that a script delivers to the lines of its transcript.
+//! Plays scripts with any performer: the lines of a script are deliveries, and the result is a transcript. Read
+//! [`play_with`] first.
 //!
-//! - A line of a script: [`read_delivery`], its bytes read by [`unescape`].
-//! - A line of a transcript: [`push_answer`], its bytes written by [`push_escaped`].
+//! - Reading a line of a script: [`read_delivery`], and [`unescape`] for its bytes.
+//! - Writing a line of a transcript: [`push_answer`], and [`push_escaped`] for its bytes.
 //! - How large a script may be: [`MAX_LINES`], [`MAX_LINE`].
-//! - Faults: [`PlayFault`] of a script, [`RunFault`] of a list of deliveries, [`PerformFault`] of one.
-//! - Devices, which count their calls and their failures: [`Counted`], [`CountedRead`] and [`CountedWrite`]; a [`Tally`] makes one
-//!   of any reader or writer.
-//! - Reading a line from a device, whatever it says: [`read_line`], and [`next_byte`] for one byte. Writing a text whole to one:
+//! - Faults: [`PlayFault`] of a script, [`RunFault`] of a list of deliveries, [`PerformFault`] of one delivery.
+//! - Devices that count their calls and their failures: [`Counted`], [`CountedRead`] and [`CountedWrite`].
+//!   A [`Tally`] makes one of any reader or writer.
+//! - Reading a line from any device: [`read_line`], and [`next_byte`] for one byte. Writing a whole text to one:
 //!   [`write_whole`].
-//! - What performs deliveries: [`Performer`].
+//! - Performing deliveries: [`Performer`].
 //! - The loops over deliveries: [`play_with`], from a reader to a writer, and [`run_with`], over a
 //!   list.
 //! - Laws, which run no code: [`escapes_read_back`], [`texts_are_spelled`], [`transcripts_are_read_one_way`],
@@ -45,5 +46,5 @@ pub use tally::Tally;
 pub use transcript_lines::push_answer;
 pub use writing::write_whole;
 
-/// What a call answers if memory was refused.
+/// The error of a call if memory was refused.
 pub type OutOfMemory = std::alloc::AllocError;

@@ -1,4 +1,4 @@
-//! Laws of the definitions: functions that do nothing, each with a law for its contract.
+//! Laws of the lines of scripts and transcripts. They run no code.
 
 ghost use Rattle.std.specs.Prelude.{◌≡◌, ◌<◌, ◌↔◌, List, ℕ, Some};
 ghost use Rattle.std.specs.List.{AllByRecursion};
@@ -6,7 +6,7 @@ ghost use Rattle.radio_script.specs.Escapes.{escaped, unescaped};
 ghost use Rattle.radio_script.specs.Spelling.{SpellsAll};
 ghost use Rattle.radio_script.specs.Given.{AreLines, TranscriptLine, transcript_text};
 
-/// What a transcript writes of some bytes is read back as these bytes.
+/// The text that a transcript writes for some bytes is read back as these bytes.
 // rule: Escapes
 #[tactic(auto, using(crate::proofs::EscapeLemmas::unescaped_escaped))]
 pub fn escapes_read_back()
@@ -14,13 +14,13 @@ pub fn escapes_read_back()
         → unescaped (escaped bytes) ≡ Some bytes }
 {}
 
-/// The bytes that are read from a text are those that it writes, by the grammar of texts.
+/// The reading of a text agrees with the grammar of texts.
 #[tactic(auto, using(crate::proofs::SpellingLemmas::spelled))]
 pub fn texts_are_spelled()
     ensures { (text bytes : List ℕ) → (unescaped text ≡ Some bytes) ↔ SpellsAll text bytes }
 {}
 
-/// A transcript can be read as one list of lines alone.
+/// The text of a transcript is that of one list of lines alone.
 #[tactic(auto, using(crate::proofs::LineReadings::read_one_way))]
 pub fn transcripts_are_read_one_way()
     ensures { (lines others : List TranscriptLine) → AreLines lines → AreLines others

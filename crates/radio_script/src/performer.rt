@@ -1,22 +1,22 @@
-//! What performs deliveries.
+//! Performers of deliveries.
 
 ghost use Rattle.std.specs.Prelude.{◌≡◌, ◌++◌, ℕ, List, Option, None, Some, Err, OnOk};
 
 use crate::{Delivery, PerformFault};
 use std::alloc::Global;
 
-/// What performs deliveries, one after another, and gives the result of each.
+/// Performs deliveries, one after another, and gives the result of each.
 pub trait Performer {
     ghost use Rattle.radio_script.specs.Runs.{Conduct};
 
-    // From this performer the delivery yields that text, or None if its label was not opened or is
-    // opened twice, and that performer.
+    // From this performer the delivery yields this text, or None if it is refused with `Label`, and leaves
+    // the performer after it.
     ghost performs: { Conduct Self };
 
-    /// Performs a delivery, and adds its lines to the transcript. It is refused with `Label` if the
-    /// label was not opened or is opened twice, or no relay feeds the mount that it pulls for, and
-    /// with `OutOfMemory`, and for nothing else. Nothing is said of the lines after an `Err`, nor
-    /// of the performer after `OutOfMemory`: the script ends there.
+    /// Performs a delivery, and appends its lines to the transcript. `Label` if it opens a label twice, names one
+    /// that was not opened, or pulls for a mount that no relay feeds. `OutOfMemory` if memory was refused. There is
+    /// no other error. After an `Err` the contract says nothing of the lines, and after `OutOfMemory` nothing of the
+    /// performer: the script ends there.
     fn perform(
         &mut self,
         alloc: Global,

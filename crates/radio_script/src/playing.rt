@@ -1,4 +1,4 @@
-//! Playing a script.
+//! Plays a script. Read [`play_with`] first.
 
 ghost use Rattle.std.specs.Prelude.{◌≡◌, ◌≢◌, ◌+◌, ◌≤◌, ℕ, List, true, Ok, Err, length};
 ghost use Rattle.radio_script.specs.Answers.{AnswersLine, IsLineResult, PlaysLine};
@@ -14,19 +14,19 @@ use crate::{
 };
 use std::alloc::Global;
 
-// The line that is played, and the lines of its delivery.
+// The line being played, and the text of its delivery.
 #[derive(Drop)]
 struct Buffers {
     line: Vec<u8>,
     text: Vec<u8>,
 }
 
-/// Plays a script: reads it line by line, and writes its transcript. A line is answered before
-/// anything behind it is read.
+/// Plays a script: reads it line by line, and writes its transcript. It answers a line before
+/// it reads anything after that line.
 ///
-/// `Ok` has read to the reader's end. It is refused with `Read` or `Write` if that device
-/// failed, with `Line` or `TooMuch` if the script has that fault, with `OutOfMemory`, and for
-/// nothing else.
+/// With `Ok` it has read to the reader's end. The errors are `Read` or `Write` if that device
+/// failed, `Line` or `TooMuch` if the script has that fault, and `OutOfMemory` if memory was refused.
+/// There is no other error.
 // rule: Line of a script; Longest script
 pub fn play_with<P: Performer, R: CountedRead, W: CountedWrite>(
     alloc: Global,
@@ -34,20 +34,20 @@ pub fn play_with<P: Performer, R: CountedRead, W: CountedWrite>(
     reader: &mut R,
     writer: &mut W,
 ) -> Result<(), PlayFault>
-    // What was written is the transcript of the script's lines, as far as the result says.
+    // The bytes written are the transcript of the script's lines, as far as the result says.
     ensures plays { IfKnown (R.remaining reader.old) (R.remaining reader.new) (λ script left.
         Writes (W.contents writer.old) (W.contents writer.new)
         (W.calls writer.old) (W.calls writer.new) (λ written most_calls.
         Plays P.performs performer.old 1 script left result written most_calls performer.new)) }
 
-    // 1,000,000 lines of 65,536 bytes with their line feeds, a byte a call, and one call more.
+    // 1,000,000 lines of 65,536 bytes with their line feeds, one call for each byte, and one call more.
     ensures reader_calls { R.calls reader.new ≤ R.calls reader.old + 65537000001 }
 
-    // A fault of a device comes with its first failure, and only with one.
+    // A device's fault is the result of its first failure, and of nothing else.
     ensures reader_failures { R.failures reader.new ≡ reader_failures result (R.failures reader.old) }
     ensures writer_failures { W.failures writer.new ≡ writer_failures result (W.failures writer.old) }
 
-    // Nothing that was written is kept back.
+    // The writer keeps nothing back.
     ensures flushed { result ≢ Err PlayFault.Write
         → W.is_flushed writer.old ≡ true → W.is_flushed writer.new ≡ true }
 {
@@ -65,7 +65,7 @@ pub fn play_with<P: Performer, R: CountedRead, W: CountedWrite>(
     expect_end(reader)
 }
 
-// Reads the next line and answers it. `Ok(true)` where the line had its line feed, `Ok(false)` at
+// Reads the next line and answers it. Returns `Ok(true)` if the line had its line feed, and `Ok(false)` at
 // the reader's end.
 // rule: Line of a script
 fn play_line<P: Performer, R: CountedRead, W: CountedWrite>(
@@ -120,7 +120,7 @@ fn play_line<P: Performer, R: CountedRead, W: CountedWrite>(
     }
 }
 
-// Performs the delivery of a line, and writes its lines.
+// Performs the delivery of a line, and writes its text.
 fn answer_line<P: Performer, W: CountedWrite>(
     alloc: Global,
     performer: &mut P,
@@ -147,7 +147,7 @@ fn answer_line<P: Performer, W: CountedWrite>(
     }
 }
 
-// Performs the delivery of a line, and leaves its lines as the text.
+// Performs the delivery of a line, and leaves its lines in `text`.
 // rule: Line of a script
 #[tactic(auto, unfolding(crate::specs::Script::meaning_of))]
 fn perform_line<P: Performer>(
@@ -169,7 +169,7 @@ fn perform_line<P: Performer>(
     }
 }
 
-// Performs the delivery of a line, and leaves its lines as the text.
+// Performs the delivery of a line, and leaves its lines in `text`.
 fn perform_delivery<P: Performer>(
     alloc: Global,
     performer: &mut P,
@@ -188,7 +188,7 @@ fn perform_delivery<P: Performer>(
     }
 }
 
-// Calls the reader once more behind the last line that a script may have: nothing may be left.
+// Calls the reader once more after the last line that a script may have. It fails if a byte is left.
 fn expect_end<R: CountedRead>(reader: &mut R) -> Result<(), PlayFault>
     ensures ends { EndsThere (R.remaining reader.old) (R.remaining reader.new) result }
     ensures calls { R.calls reader.new ≤ R.calls reader.old + 1 }

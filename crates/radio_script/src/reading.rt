@@ -1,4 +1,4 @@
-//! Reading a line, byte by byte: nothing behind the line is read before the line is answered.
+//! Reads a line byte by byte, and nothing after it. Read [`read_line`] first.
 
 ghost use Rattle.std.specs.Prelude.{◌≡◌, ◌+◌, ◌<◌, ◌≤◌, [], ◌∷◌, length, vec_len, false, OnOk, OnErr, IfOk, MatchOption, ◌⊎◌};
 ghost use Rattle.std.specs.Io.KnownBytes.{Consumes, IsAtEnd, Keeps};
@@ -13,23 +13,23 @@ use std::io;
 /// What the reading of a line found.
 #[derive(Clone, Copy)]
 pub enum LineRead {
-    /// A line with its line feed.
+    /// A line and its line feed.
     Whole,
-    /// The last line, without a line feed: the reader is at its end.
+    /// The last line, without a line feed. The reader is at its end.
     Last,
-    /// No byte: the reader is at its end.
+    /// No byte. The reader is at its end.
     Nothing,
-    /// A byte more than a line may have.
+    /// One byte more than a line may have.
     TooLong,
 }
 
-/// Reads a line into `line`, without its line feed. It is refused with `Read` if the reader
-/// failed, and with `OutOfMemory`, and for nothing else.
+/// Reads a line into `line`, without its line feed. The errors are `Read` if the reader
+/// failed, and `OutOfMemory` if memory was refused. There is no other error.
 pub fn read_line<R: CountedRead>(reader: &mut R, line: &mut Vec<u8>) -> Result<LineRead, PlayFault>
     ensures reads { ReadsLine (R.remaining reader.old) (R.remaining reader.new)
         result line.new.items }
 
-    // A call for each byte of the longest line, and one for its line feed.
+    // One call for each byte of the longest line, and one for its line feed.
     ensures calls { R.calls reader.new ≤ R.calls reader.old + (max_line + 1) }
     ensures failures { R.failures reader.new ≡ reader_failures result (R.failures reader.old) }
 {
@@ -66,7 +66,7 @@ fn end_of_input(line: &[u8]) -> LineRead
     }
 }
 
-/// One call of the reader, for one byte. `Ok(None)` is the reader's end.
+/// Reads one byte by one call of the reader. `Ok(None)` is the reader's end.
 pub fn next_byte<R: CountedRead>(reader: &mut R) -> io::Result<Option<u8>>
     ensures byte { IfOk result (λ next. MatchOption next
         (Consumes (R.remaining reader.old) (R.remaining reader.new) []

@@ -1,4 +1,4 @@
-//! Running a list of deliveries.
+//! Runs a list of deliveries.
 
 ghost use Rattle.std.specs.Prelude.{◌≡◌, ℕ, List, None, Some, Err, IfOk};
 ghost use Rattle.radio_script.specs.Runs.{Runs};
@@ -7,9 +7,8 @@ use crate::performer::Performer;
 use crate::{Delivery, PerformFault, RunFault};
 use std::alloc::Global;
 
-/// The transcript of the deliveries. It is refused as `Delivery` at the first whose label was not
-/// opened or is opened twice, or that pulls for a mount which no relay feeds, and with
-/// `OutOfMemory`, and for nothing else.
+/// Returns the transcript of the deliveries. The error is `Delivery` at the first delivery that the performer refuses
+/// with `Label`, and `OutOfMemory` if memory was refused. There is no other error.
 // rule: Line of a script
 pub fn run_with<P: Performer>(
     alloc: Global,

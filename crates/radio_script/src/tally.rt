@@ -9,7 +9,7 @@ use crate::devices::{Counted, CountedRead, CountedWrite};
 use std::io;
 use std::io::{Error, ErrorKind, Read, Write};
 
-/// A reader or a writer with the counts of its calls and its failures.
+/// A reader or a writer that counts its calls and its failures.
 #[derive(Drop)]
 pub struct Tally<D> {
     device: D,
@@ -21,7 +21,7 @@ pub struct Tally<D> {
 impl<D> Tally<D> {
     ghost use Rattle.radio_script.specs.Tally.{calls_of, device_of, failures_of, has_flushed};
 
-    /// The device, never called and never failed yet: nothing was written that it may keep back.
+    /// Returns the tally of a device, without calls and failures, and with nothing kept back.
     pub fn new(device: D) -> Tally<D>
         ensures device { device_of result ≡ device }
         ensures calls { calls_of result ≡ 0 }
@@ -58,7 +58,7 @@ impl<D: Read> Read for Tally<D> {
 
     ghost remaining = { λ t. D.remaining (device_of t) };
 
-    // It counts as `read_counted` does.
+    // Counts as `read_counted` does.
     fn read(&mut self, buffer: &mut [u8]) -> io::Result<usize>
         ensures bound { ReadsAtMost result buffer.new }
         ensures bytes { ReadConsumes (D.remaining (device_of self.old))
@@ -87,7 +87,7 @@ impl<D: Write> Write for Tally<D> {
 
     ghost contents = { λ t. D.contents (device_of t) };
 
-    // It counts as `write_counted` does. Nothing is written of an empty buffer, which is no call.
+    // Counts as `write_counted` does. An empty buffer writes nothing, and is not counted.
     fn write(&mut self, buffer: &[u8]) -> io::Result<usize>
         ensures bound { WritesAtMost result buffer.now }
         ensures bytes { WriteAppends (D.contents (device_of self.old))

@@ -1,4 +1,4 @@
-//! The lines of a transcript.
+//! Writes the lines of a transcript. Read [`push_answer`] first.
 
 ghost use Rattle.std.specs.Prelude.{◌≡◌, ◌∷◌, ◌++◌, [], OnOk, OnErr};
 ghost use Rattle.std.specs.Fmt.{decimal};
@@ -10,9 +10,9 @@ use crate::OutOfMemory;
 use crate::escapes::push_escaped;
 use std::alloc::Global;
 
-/// Adds the lines of a delivery to a connection: an `out` line if bytes were given, and then a
-/// `shut` line if the connection was shut, for the reason that the word names. An `Err` leaves the
-/// lines as they were.
+/// Appends the lines of a delivery to a connection. There is an `out` line if bytes were written, and then a
+/// `shut` line with its word if the connection was shut. `OutOfMemory` if memory was refused; then the
+/// lines are unchanged.
 pub fn push_answer(
     alloc: Global,
     lines: &mut Vec<u8>,
@@ -96,7 +96,7 @@ fn append_shut_line(
     append(lines, b"\n")
 }
 
-// The front of a line: its kind and the connection's label, each with a space.
+// Appends the front of a line: its kind and the connection's label, each followed by a space.
 fn append_labelled(
     alloc: Global,
     lines: &mut Vec<u8>,

@@ -1,4 +1,4 @@
-//! Writing a text whole.
+//! Writes a whole text.
 
 ghost use Rattle.std.specs.Prelude.{◌≡◌, ◌+◌, ◌≤◌, ℕ, true, length, take, OnOk, OnErr};
 ghost use Rattle.std.specs.Io.KnownBytes.{Appends};
@@ -7,14 +7,14 @@ ghost use Rattle.radio_script.specs.Devices.{bumped};
 use crate::devices::CountedWrite;
 use std::io;
 
-/// Writes the whole text, and sends on what the writer may have kept back. An `Err` comes with
-/// the writer's first failure: a front of the text was written then.
+/// Writes the whole text, and flushes the writer. An `Err` is
+/// the writer's first failure; then only a front of the text was written.
 pub fn write_whole<W: CountedWrite>(writer: &mut W, text: &[u8]) -> io::Result<()>
     ensures ok { OnOk result (Appends (W.contents writer.old) (W.contents writer.new) text.now) }
     ensures err { OnErr result ((n : ℕ)
         × Appends (W.contents writer.old) (W.contents writer.new) (take n text.now)) }
 
-    // Each call takes a byte at least, or is the last.
+    // Each call takes at least one byte, or is the last call.
     ensures calls { W.calls writer.new ≤ W.calls writer.old + length text.now }
 
     ensures sound { OnOk result (W.failures writer.new ≡ W.failures writer.old) }

@@ -1,4 +1,4 @@
--- What is told while a last word is awaited.
+-- What is written while a last word is awaited.
 use Rattle.std.proofs.Common.{◌≡◌, ℕ, zero, suc, ◌+◌, ◌-◌, List, [], ◌∷◌, ◌++◌, length, Option, None, Some, refl, ap, sym, subst, ◌∙◌, arith}
 use Rattle.std.proofs.Math.Dec.{eqb-suc-zero}
 use Rattle.radio_events.specs.declared.event.Event.{Event}
@@ -15,7 +15,7 @@ use Rattle.radio_events.specs.Servers.{Steps}
 use Rattle.radio_session.specs.Exchanges.{Exchange, nothing_exchanged, prefixed, ended_with, GoesOn, Exchanges}
 use Rattle.radio_session.proofs.ExchangeLemmas.{one_on, one_last}
 
--- so many replies come before that with which the last word is told
+-- n replies come before the one with which this last word is written
 abbrev pub awaiting : ℕ → LastWord → Option Closing
 awaiting n word = Some (record { awaits = n; word = word })
 
@@ -29,7 +29,7 @@ free says = with_closing says None
 pub free_says : (says : Says) → says.closing ≡ None → free says ≡ says
 free_says says e = ap (with_closing says) (sym e)
 
--- a reply that is not the last is told as if none were awaited
+-- a reply that is not the last is written as if no last word were awaited
 pub record IsAwaited (now alone : Said) (n : ℕ) (word : LastWord) : Type 0 where
   pub bytes : now.bytes ≡ alone.bytes
   pub state : now.state ≡ alone.state
@@ -87,7 +87,7 @@ told_awaiting says n word Stray = record {
 }
 
 module _ {S : Type 0} (steps : Steps S) (id : ℕ) where
-  -- the same of events, none of which is the last
+  -- the same for events, none of which is the last
   pub record Awaited (says : Says) (events : List Event) (n : ℕ) (word : LastWord) (from : S) (now : Exchange) (to : S) : Type 0 where
     pub x : Exchange
     pub alone : Exchanges steps id (free says) events from x to
@@ -146,7 +146,7 @@ module _ {S : Type 0} (steps : Steps S) (id : ℕ) where
           says_on = λ on. cc;
         }
 
-  -- where none is awaited, none is awaited later
+  -- if no last word is awaited, none is awaited later
   pub stays_free : (events : List Event) (says : Says) (from : S) (x : Exchange) (to : S) → Exchanges steps id (free says) events from x to
       → x.says.closing ≡ None
   stays_free [] says from x to e = ap (λ (y : Exchange). y.says.closing) e.0

@@ -1,4 +1,4 @@
--- A source's events, and their end, are told alike however its data were cut into blocks.
+-- A source's events and their end are exchanged alike, however its data were cut into blocks.
 use Rattle.std.proofs.Common.{◌≡◌, ℕ, List, [], ◌∷◌, ◌++◌, length, ap, sym, ◌∙◌, refl, subst, append_assoc, Option, None, Some, arith}
 use Rattle.std.proofs.lemmas.List.{map-append}
 use Rattle.std.specs.List.{concat, All}
@@ -22,7 +22,7 @@ use Rattle.radio_session.proofs.ExchangeParts.{FollowsBy, split, join_on, join_s
 use Rattle.radio_session.proofs.AwaitLemmas.{awaiting, with_closing, free, free_says, awaited, stays_free}
 use Rattle.radio_session.proofs.DataLemmas.{ToldAlike, blocks_as, behind_alike}
 
--- there are blocks where there are data
+-- if two parts are empty together, the first is empty
 nil_left : (xs ys : List ℕ) → xs ++ ys ≡ [] → xs ≡ []
 nil_left [] ys e = refl
 nil_left (x ∷ xs) ys e = cc
@@ -34,14 +34,14 @@ no_blocks (block ∷ blocks) valid e =
     let none : length block ≡ 0 = ap length (nil_left block (concat blocks) e) in
     absurd (omega (arith, here.0, none))
 
--- events, and those of blocks in two parts
+-- the events of blocks in two parts are joined
 pub blocks_joined : (id : ℕ) (before : List Event) (one two : List (List ℕ))
     → (before ++ blocks_as id one) ++ blocks_as id two ≡ before ++ blocks_as id (one ++ two)
 blocks_joined id before one two =
     append_assoc before (blocks_as id one) (blocks_as id two) ∙ ap (λ (es : List Event). before ++ es) (sym (map-append (Push id) one two))
 
 module _ {S : Type 0} (steps : Steps S) (id : ℕ) where
-  -- events, and the last one behind them, while its reply is awaited
+  -- events, and then the last one, while its reply is awaited
   pub record Ended (says : Says) (events : List Event) (word : LastWord) (from : S) (all : Exchange) (to : S) : Type 0 where
     pub x : Exchange
     pub mid : S
@@ -71,12 +71,12 @@ module _ {S : Type 0} (steps : Steps S) (id : ℕ) where
             (ap (λ (z : Exchange). z.bytes) g.0 ∙ a.bytes, ap (λ (z : Exchange). z.state) g.0 ∙ a.state);
       }
 
-  -- some events, and the end of the data where a last word is awaited
+  -- some events, and then the end of the data if a last word is awaited
   abbrev pub Closes : Option LastWord → Says → List Event → S → Exchange → S → Type 0
   Closes None says events from all to = Exchanges steps id (free says) events from all to
   Closes (Some word) says events from all to = Ended says events word from all to
 
-  -- where the connection is shut before the end
+  -- the connection is shut before the end
   pub closes_shut : (word : Option LastWord) (says : Says) (first second : List Event) (from : S) (x : Exchange) (to : S) (ending : Ending)
       → Exchanges steps id (free says) first from x to → x.state ≡ Shut ending → Closes word says (first ++ second) from x to
   closes_shut None says first second from x to ending e shut = join_shut steps id first second (free says) from to x ending e shut
@@ -88,7 +88,7 @@ module _ {S : Type 0} (steps : Steps S) (id : ℕ) where
     shut = λ last is_shut. (refl, refl);
   }
 
-  -- behind events after which the connection goes on
+  -- after events that leave the connection open
   pub closes_on : (word : Option LastWord) (says : Says) (first second : List Event) (from mid to : S) (x y : Exchange)
       → Exchanges steps id (free says) first from x mid → x.state ≡ Running → Closes word x.says second mid y to
       → Closes word says (first ++ second) from (prefixed x.bytes y) to
@@ -109,7 +109,7 @@ module _ {S : Type 0} (steps : Steps S) (id : ℕ) where
         (ap (λ (bytes : List ℕ). x.bytes ++ bytes) g.0, g.1);
   }
 
-  -- data in some blocks, behind other events
+  -- data in some blocks, after other events
   pub record InBlocks (says : Says) (before : List Event) (bytes : List ℕ) (word : Option LastWord) (from : S) (all : Exchange) (to : S) : Type 0 where
     pub blocks : List (List ℕ)
     pub valid : All IsBlock blocks
@@ -128,7 +128,7 @@ module _ {S : Type 0} (steps : Steps S) (id : ℕ) where
         (subst (λ (s : Says). Exchanges steps id s [] from x to) (sym (free_says says is_free)) e);
   }
 
-  -- the first of the data, and the rest behind them
+  -- the first of the data, and then the rest
   pub blocks_on : (word : Option LastWord) (says : Says) (before : List Event) (first rest : List ℕ) (blocks : List (List ℕ)) (from mid to : S) (x y : Exchange)
       → All IsBlock blocks → concat blocks ≡ first → Exchanges steps id (free says) (before ++ blocks_as id blocks) from x mid → x.state ≡ Running
       → InBlocks x.says [] rest word mid y to → InBlocks says before (first ++ rest) word from (prefixed x.bytes y) to
@@ -142,7 +142,7 @@ module _ {S : Type 0} (steps : Steps S) (id : ℕ) where
         (closes_on word says (before ++ blocks_as id blocks) (blocks_as id later.blocks) from mid to x y e runs later.closes);
   }
 
-  -- the first of the data, where the rest are not taken
+  -- the first of the data, if the rest are not taken
   pub blocks_shut : (word : Option LastWord) (says : Says) (before : List Event) (first rest : List ℕ) (blocks others : List (List ℕ)) (from to : S)
       (x : Exchange) (ending : Ending)
       → All IsBlock blocks → concat blocks ≡ first → All IsBlock others → concat others ≡ rest
@@ -157,7 +157,7 @@ module _ {S : Type 0} (steps : Steps S) (id : ℕ) where
   }
 
   module _ (server : GoesByData steps id) where
-    -- the end of the data is told alike
+    -- the end of the data gets the same reply
     last_alike : (says : Says) (from other : S) (x y : Exchange) (to end : S) → server.to_end from [] ≡ server.to_end other []
         → Exchanges steps id says (SourceEnd id ∷ []) from x to → Exchanges steps id says (SourceEnd id ∷ []) other y end → (x.bytes ≡ y.bytes)
         × (x.state ≡ y.state)
@@ -176,7 +176,7 @@ module _ {S : Type 0} (steps : Steps S) (id : ℕ) where
               let same : x ≡ y = g.1 ∙ sym h.1 in
               (ap (λ (z : Exchange). z.bytes) same, ap (λ (z : Exchange). z.state) same)
 
-    -- two cuttings of the same data, behind the same events
+    -- two cuttings of the same data, after the same events
     module _ (says : Says) (before : List Event) (one other : List (List ℕ)) (valid : All IsBlock one) (valid' : All IsBlock other)
         (same : concat one ≡ concat other) (from to end : S) where
       events_alike : (x y : Exchange) (mid mid' : S) → Exchanges steps id (free says) (before ++ blocks_as id one) from x mid

@@ -8,7 +8,7 @@ use Rattle.radio_session.specs.Hearing.{body_closes}
 abbrev pub closes_at : Place → Option LastWord
 closes_at place = body_closes (has_ended place) (fault_at place)
 
--- more bytes are no data, and the body closes its conversation in the same manner
+-- more bytes bring no data, and the body closes its conversation in the same way
 pub record StaysClosed (place : Place) (bytes : List ℕ) (word : LastWord) : Type 0 where
   pub dataless : data_of place bytes ≡ []
   pub closed : closes_at (after place bytes) ≡ Some word

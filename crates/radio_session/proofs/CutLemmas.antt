@@ -1,4 +1,4 @@
--- However bytes are cut, they are heard alike.
+-- However bytes are cut, they are read alike.
 use Rattle.std.proofs.Common.{◌≡◌, ℕ, Bool, true, false, List, [], ◌∷◌, ◌++◌, drop, map, ap, sym, ◌∙◌, refl, subst, Result, Ok, Err, append_assoc}
 use Rattle.std.proofs.Common.{Option, None, Some, append-nil}
 use Rattle.std.specs.Prelude.{codes, if◌then◌else◌}
@@ -32,22 +32,22 @@ use Rattle.radio_session.proofs.HearingLemmas.{heard-alike, hearing_is_one}
 use Rattle.radio_session.specs.Cuts.{Atom, datum, atoms, with_replies_given, AreHeardAlike, IsCutting, IsHeardIn, unheard, heard_then, event_atoms}
 use Rattle.radio_session.specs.Cuts.{CutsDoNotMatter, PiecesAreHeardAsOne}
 
--- lists of atoms joined
+-- the atoms of two lists of events, joined
 atoms-append : (xs ys : List Event) → atoms (xs ++ ys) ≡ atoms xs ++ atoms ys
 atoms-append [] ys = refl
 atoms-append (x ∷ xs) ys = ap (λ (zs : List Atom). event_atoms x ++ zs) (atoms-append xs ys) ∙ sym (append_assoc (event_atoms x) (atoms xs) (atoms ys))
 
--- blocks, taken apart, are their data
+-- the atoms of blocks are those of their data
 atoms-blocks : (id : ℕ) (blocks : List (List ℕ)) → atoms (map (Push id) blocks) ≡ map (datum id) (concat blocks)
 atoms-blocks id [] = refl
 atoms-blocks id (block ∷ blocks) =
     ap (λ (zs : List Atom). map (datum id) block ++ zs) (atoms-blocks id blocks) ∙ sym (map-append (datum id) block (concat blocks))
 
--- the blocks of some data are the data
+-- the blocks of some data, joined, are the data
 abbrev pub AreJoined : Type 0
 AreJoined = (bytes : List ℕ) → concat (blocks_of bytes) ≡ bytes
 
--- the places of bytes in two pieces, and the data among them
+-- the place after two pieces is that after their bytes in one
 abbrev pub PlacesJoin : Type 0
 PlacesJoin = (place : Place) (first second : List ℕ) → after place (first ++ second) ≡ after (after place first) second
 
@@ -67,11 +67,11 @@ module _ (joined : AreJoined) where
       ∙ sym (map-append (datum id) first second)
       ∙ sym (atoms-pushes id (first ++ second))
 
--- two pieces come to what the whole does
+-- two pieces are read as the whole is
 abbrev Alike : EventReading → EventReading → EventReading → Type 0
 Alike one two whole = (atoms (one.events ++ two.events) ≡ atoms whole.events) × (with_replies_given two.conversation ≡ with_replies_given whole.conversation)
 
--- two pieces and the whole, each by what it is heard as
+-- two pieces and the whole, each by its reading
 by_parts : (X Y Z two whole : EventReading) → two ≡ Y → whole ≡ Z → atoms (X.events ++ Y.events) ≡ atoms Z.events
     → with_replies_given Y.conversation ≡ with_replies_given Z.conversation → Alike X two whole
 by_parts X Y Z two whole e f g h = (
@@ -79,7 +79,7 @@ by_parts X Y Z two whole e f g h = (
   ap (λ (y : EventReading). with_replies_given y.conversation) e ∙ h ∙ sym (ap (λ (z : EventReading). with_replies_given z.conversation) f),
 )
 
--- the same where the conversation is closed by the first piece
+-- the same, if the first piece closes the conversation
 by_closed : (X Z two whole : EventReading) → two ≡ record { events = []; conversation = X.conversation } → whole ≡ Z → atoms X.events ≡ atoms Z.events
     → with_replies_given X.conversation ≡ with_replies_given Z.conversation → Alike X two whole
 by_closed X Z two whole e f g h =
@@ -99,7 +99,7 @@ module _ (joined : AreJoined) (places : PlacesJoin) (found : DataJoin) where
       ∙ ap (λ (bytes : List ℕ). atoms (pushes id bytes)) (sym (found place first second)))
       ∙ sym (atoms-append before (pushes id (data_of place (first ++ second))))
 
-  -- and an event behind them
+  -- the same with an event after them
   ended-cut : (id : ℕ) (before : List Event) (last : Event) (place : Place) (first second : List ℕ)
       → atoms ((before ++ pushes id (data_of place first)) ++ (pushes id (data_of (after place first) second) ++ last ∷ [])) ≡ atoms
       ((before ++ pushes id (data_of place (first ++ second))) ++ last ∷ [])
@@ -152,21 +152,21 @@ module _ (joined : AreJoined) (places : PlacesJoin) (found : DataJoin) where
         ∙ ap (λ (events : List Event). closes_with conversation events (SourceEnd id) word) same in
         by_closed Z Z two whole h alike refl refl
 
--- what a request is heard as, by the tests of its method
+-- the reading of a request, by the tests of its method
 unfoldable pub request_by : Bool → Bool → Conversation → RequestParts → List ℕ → EventReading
 request_by source get conversation request behind =
     if source then source_heard conversation request behind (framing_of request)
     else if get then get_heard conversation request
     else refuses conversation BadMethod
 
--- what was held before a head is heard as does not matter
+-- the bytes that were held before a head do not matter for its reading
 pub held-alike : (conversation : Conversation) (held bytes : List ℕ) (r : Result (Progress RequestParts) HeadFault)
     → head_heard (record conversation { held = held }) bytes r ≡ head_heard conversation bytes r
 held-alike conversation held bytes (Ok More) = refl
 held-alike conversation held bytes (Ok (Whole request n)) = refl
 held-alike conversation held bytes (Err e) = refl
 
--- a source's request, and more bytes behind it
+-- a source's request, and more bytes after it
 source-cut : (joined : AreJoined) (places : PlacesJoin) (found : DataJoin) (framing : Option Framing) (conversation : Conversation)
     (request : RequestParts) (behind second : List ℕ) (two whole : EventReading)
     → IsHeard (source_heard conversation request behind framing).conversation second two
@@ -177,7 +177,7 @@ source-cut joined places found (Some framing) conversation request behind second
     body-cut joined places found (greeted conversation request) (asks_to_feed conversation.id request ∷ []) (start_of framing) behind second two whole
     (closes_at (after (start_of framing) behind)) refl h w
 
--- a request, and more bytes behind it
+-- a request, and more bytes after it
 request-cut : (joined : AreJoined) (places : PlacesJoin) (found : DataJoin) (source get : Bool) (conversation : Conversation) (request : RequestParts)
     (behind second : List ℕ) (two whole : EventReading) → IsHeard (request_by source get conversation request behind).conversation second two
     → whole ≡ request_by source get conversation request (behind ++ second) → Alike (request_by source get conversation request behind) two whole
@@ -234,7 +234,7 @@ module _ (joined : AreJoined) (places : PlacesJoin) (found : DataJoin) (agree : 
       let alike : whole ≡ refuses conversation BadHead = w ∙ heard-alike agree conversation (conversation.held ++ (first ++ second)) s (Err e) again reading in
       by_closed (refuses conversation BadHead) (refuses conversation BadHead) two whole h alike refl refl
 
-  -- any two pieces, by what the conversation hears
+  -- any two pieces, by how the conversation reads the first
   cuts : (hears : Hears) (conversation : Conversation) (first second : List ℕ) (one two whole : EventReading) → conversation.hears ≡ hears
       → HearsAs hears conversation first one → IsHeard one.conversation second two → HearsAs hears conversation (first ++ second) whole → Alike one two whole
   cuts Nothing conversation first second one two whole hears h k w =
@@ -251,7 +251,7 @@ module _ (joined : AreJoined) (places : PlacesJoin) (found : DataJoin) (agree : 
       let later : IsHeard X.conversation second two = subst (λ (x : EventReading). IsHeard x.conversation second two) h.2 k in
       subst (λ (x : EventReading). Alike x two whole) (sym h.2) (head-cut conversation first second two whole h.0 w.0 hears h.1 later w.1 w.2)
 
-  -- what two pieces are heard as, they are heard as in one
+  -- a reading in one piece that is alike to the reading in two
   record Joined (conversation : Conversation) (first second : List ℕ) (one two : EventReading) : Type 0 where
     pub whole : EventReading
     pub is_heard : IsHeard conversation (first ++ second) whole
@@ -295,7 +295,7 @@ module _ (joined : AreJoined) (places : PlacesJoin) (found : DataJoin) (agree : 
       let w = any-joined conversation.hears conversation first second one two refl h k in
       record { whole = w.0; is_heard = w.1; alike = cuts conversation.hears conversation first second one two w.0 refl h k w.1 }
 
-  -- what pieces are heard as, and their bytes in one
+  -- a reading in pieces is alike to the reading in one
   record AsOne (conversation : Conversation) (bytes : List ℕ) (cut : EventReading) : Type 0 where
     pub whole : EventReading
     pub is_heard : IsHeard conversation bytes whole

@@ -1,4 +1,4 @@
--- However bytes are cut, they are told alike.
+-- However bytes are cut, the same is written for them.
 use Rattle.std.proofs.Common.{◌≡◌, ℕ, Bool, true, false, List, [], ◌∷◌, ◌++◌, drop, ap, sym, ◌∙◌, refl, subst, inl, inr, IsErr, Result, Ok, Err}
 use Rattle.std.proofs.Common.{append-nil, Option, None, Some}
 use Rattle.std.specs.Prelude.{codes}
@@ -84,7 +84,7 @@ module _ {S : Type 0} (steps : Steps S) (joined : AreJoined) (valid : AreValid) 
       (cutting_in steps joined valid places found settled fits conversation bytes pieces from to x is_free cutting e)
       (cutting_in steps joined valid places found settled fits conversation bytes others from end y is_free again f)
 
-  -- one piece is a cutting, and is told so
+  -- one piece is a cutting, with the same exchange
   in_one : (conversation after : Conversation) (bytes : List ℕ) (from to : S) (x : Exchange) (state : State) → x.state ≡ state
       → IsTold steps conversation bytes from x after to
       → ThenTold state x to (λ others. IsToldIn steps after [] to others to) x to

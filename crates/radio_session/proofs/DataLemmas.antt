@@ -1,4 +1,4 @@
--- What a source is told does not depend on how its data were cut into blocks.
+-- What is written to a source does not depend on how its data were cut into blocks.
 use Rattle.std.proofs.Common.{◌≡◌, ◌⊎◌, inl, inr, ℕ, List, [], ◌∷◌, ◌++◌, map, refl, ap, sym, subst, ◌∙◌, append_assoc, append-nil, None}
 use Rattle.std.specs.List.{concat, All}
 use Rattle.std.proofs.lemmas.List.Elements.{All-head, All-tail}
@@ -57,7 +57,7 @@ abbrev pub blocks_as : ℕ → List (List ℕ) → List Event
 blocks_as id blocks = map (Push id) blocks
 
 module _ {S : Type 0} (steps : Steps S) (id : ℕ) (server : GoesByData steps id) where
-  -- all data were taken
+  -- the server took all data
   pub record WentOn (says : Says) (blocks : List (List ℕ)) (from : S) (x : Exchange) (to : S) : Type 0 where
     pub nothing : x ≡ nothing_exchanged (free says)
     pub data_on : (rest : List ℕ) → server.to_data from (concat blocks ++ rest) ≡ server.to_data to rest
@@ -78,7 +78,7 @@ module _ {S : Type 0} (steps : Steps S) (id : ℕ) (server : GoesByData steps id
 
   module _ (says : Says) (block : List ℕ) (blocks : List (List ℕ)) (from mid to : S) (reply : Reply) (valid : IsBlock block)
       (step : steps from (Push id block) reply mid) (x : Exchange) where
-    -- the block is taken, and others come
+    -- the server takes the block, and others follow
     quiet_on : IsQuiet reply → reply ≡ server.to_data from block → Fed says blocks mid x to → Fed says (block ∷ blocks) from x to
     quiet_on q at (inl on) = inl (record {
       nothing = on.nothing;
@@ -139,7 +139,7 @@ module _ {S : Type 0} (steps : Steps S) (id : ℕ) (server : GoesByData steps id
             (λ others. Exchanges steps id (said (free says) e.0).says (blocks_as id blocks) e.1 others to) e.3
       ]
 
-  -- two exchanges are told alike, and where the connection goes on, so is the end of the data
+  -- Two exchanges write the same. If the connection goes on, the end of the data has the same reply in both.
   pub record ToldAlike (x : Exchange) (to : S) (y : Exchange) (other : S) : Type 0 where
     pub bytes : x.bytes ≡ y.bytes
     pub state : x.state ≡ y.state
@@ -148,7 +148,7 @@ module _ {S : Type 0} (steps : Steps S) (id : ℕ) (server : GoesByData steps id
 
   module _ (says : Says) (one other : List (List ℕ)) (from : S) (x y : Exchange) (to to' : S) (same : concat one ≡ concat other)
       (none : other ≡ [] → one ≡ []) where
-    -- they can't be taken in one cutting, and not in the other
+    -- the server cannot take all data in one cutting, and end the connection in the other
     clash : WentOn says one from x to → Stopped says other from y → (one ≡ [] → other ≡ []) → ⊥
     clash on stop empty = elim on.quiet [
       | inl is_none ↦ stop.some (empty is_none)
@@ -185,7 +185,7 @@ module _ {S : Type 0} (steps : Steps S) (id : ℕ) (server : GoesByData steps id
         by_fed (inr stop) (inl again) = absurd (clash says other one from y x to' to (sym same) empty again stop none)
         by_fed (inr stop) (inr again) = both_stop says one other from x y to to' same none stop again
 
-  -- the same behind other events
+  -- the same after other events
   pub behind_alike : (before : List Event) (says : Says) (one other : List (List ℕ)) (from : S) (x y : Exchange) (to to' : S) → All IsBlock one
       → All IsBlock other → concat one ≡ concat other → (one ≡ [] → other ≡ []) → (other ≡ [] → one ≡ [])
       → Exchanges steps id (free says) (before ++ blocks_as id one) from x to

@@ -1,4 +1,4 @@
--- exchanges put together, one event after another
+-- Puts exchanges together, one event after another.
 use Rattle.std.proofs.Common.{◌≡◌, ℕ, List, ◌∷◌, ◌++◌, refl, ap, sym, subst, append_assoc}
 use Rattle.radio_events.specs.declared.event.Event.{Event}
 use Rattle.radio_events.specs.declared.reply.Reply.{Reply}
@@ -15,7 +15,7 @@ prefix_twice first second x = ap (λ (bytes : List ℕ). record x { bytes = byte
 
 module _ {S : Type 0} (steps : Steps S) (id : ℕ) (says : Says) (event : Event) (events : List Event) (from mid to : S) (reply : Reply)
     (step : steps from event reply mid) where
-  -- the event is answered, and others come to x
+  -- the event is answered, and the others exchange x
   pub one_on : (x : Exchange) → (said says reply).state ≡ Running → Exchanges steps id (said says reply).says events mid x to
       → Exchanges steps id says (event ∷ events) from (prefixed (said says reply).bytes x) to
   one_on x runs others = (

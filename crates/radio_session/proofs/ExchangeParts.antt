@@ -1,4 +1,4 @@
--- Exchanges taken apart, joined, and told while a last word is awaited.
+-- Exchanges in two parts, joined and taken apart.
 use Rattle.std.proofs.Common.{◌≡◌, ℕ, Bool, true, false, List, [], ◌∷◌, ◌++◌, refl, ap, sym, subst, ◌∙◌}
 use Rattle.radio_events.specs.declared.event.Event.{Event}
 use Rattle.radio_events.specs.declared.event.Event.TheVariants.{Leave}
@@ -14,7 +14,7 @@ use Rattle.radio_session.specs.DataServers.{HasOneReply}
 use Rattle.radio_session.proofs.ExchangeLemmas.{prefix_twice, one_on, one_last}
 
 module _ {S : Type 0} (steps : Steps S) (id : ℕ) where
-  -- other events, behind those that came to x
+  -- other events, after those that exchanged x
   abbrev pub FollowsBy : State → List Event → Exchange → S → Exchange → S → Type 0
   FollowsBy Running events x mid all to = (y : Exchange) × Exchanges steps id x.says events mid y to × (all ≡ prefixed x.bytes y)
   FollowsBy (Shut ending) events x mid all to = (all ≡ x) × (to ≡ mid)
@@ -110,7 +110,7 @@ module _ {S : Type 0} (steps : Steps S) (id : ℕ) where
     left_as_one true from to other e f = e ∙ sym f
     left_as_one false from to other e f = (one from to other (Leave id) e.0 f.0 e.1 f.1).1
 
-    -- the same events from the same state come to one thing
+    -- the same events from the same state have one exchange
     pub exchanged_as_one : (events : List Event) (says : Says) (from : S) (x y : Exchange) (to other : S) → Exchanges steps id says events from x to
         → Exchanges steps id says events from y other → (x ≡ y) × (to ≡ other)
     exchanged_as_one [] says from x y to other e f = (e.0 ∙ sym f.0, e.1 ∙ sym f.1)

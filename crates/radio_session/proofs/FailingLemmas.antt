@@ -1,4 +1,4 @@
--- What is heard fails no session.
+-- Reading bytes fails no session.
 use Rattle.std.proofs.Common.{◌≡◌, ℕ, Bool, true, false, if◌then◌else◌, List, drop, Option, None, Some, Result, Ok, Err, refl, ap, ◌∙◌}
 use Rattle.std.specs.Str.{bytes_eq}
 use Rattle.std.specs.Prelude.{codes, ◌++◌, ◌∷◌, []}

@@ -1,4 +1,4 @@
--- What a feed of a body tells of its place.
+-- What a body's answer to a feed says of its place.
 use Rattle.std.proofs.Common.{◌≡◌, ℕ, Bool, true, false, List, [], ◌∷◌, Option, None, Some, refl, ap, sym, ◌∙◌}
 use Rattle.std.proofs.Math.Bool.{and-true, false-or}
 use Rattle.radio_blocks.specs.Cutting.{blocks_of}
@@ -24,7 +24,7 @@ refuses [] false (Some fault) named e = (refl, refl)
 refuses [] true (Some fault) named e = cc
 refuses (b ∷ B) ended (Some fault) named e = cc
 
--- an answer with nothing, where the end has not come
+-- an answer with nothing, before the end
 brings_nothing : (blocks : List (List ℕ)) (is_complete : Bool) (fault : Option BodyFault) → answer_with [] false fault ≡ Brings blocks is_complete
     → body_closes false fault ≡ None
 brings_nothing blocks is_complete None e = refl
@@ -36,7 +36,7 @@ module _ (place : Place) (bytes : List ℕ) where
   answered =
       ap (λ (ended : Bool). answer_with (blocks_of (data_of place bytes)) ended (fault_at (after place bytes))) (and-true (has_ended (after place bytes)))
 
-  -- the data, and whether the end came
+  -- the data of the feed, and whether the body ended in it
   pub brought : (blocks : List (List ℕ)) (is_complete : Bool) → answer_to (unfed place) bytes ≡ Brings blocks is_complete
       → (blocks ≡ blocks_of (data_of place bytes)) × (is_complete ≡ has_ended (after place bytes))
   brought blocks is_complete e =
@@ -53,7 +53,7 @@ module _ (place : Place) (bytes : List ℕ) where
       let r = refuses (blocks_of (data_of place bytes)) (has_ended (after place bytes)) (fault_at (after place bytes)) named (sym answered ∙ e) in
       (sym r.0, sym r.1)
 
-  -- a body whose end has not come goes on
+  -- a body that has not ended goes on
   pub goes_on : (blocks : List (List ℕ)) → answer_to (unfed place) bytes ≡ Brings blocks false → after_feed (unfed place) bytes ≡ unfed (after place bytes)
   unfolding after_feed
   goes_on blocks e =
@@ -71,12 +71,12 @@ module _ (place : Place) (unended : has_ended place ≡ false) where
   unfolding blocks_of
   answered_nothing = answered place [] ∙ ap (λ (ended : Bool). answer_with [] ended (fault_at place)) unended
 
-  -- an empty piece shows that there is no fault
+  -- if an empty feed is taken, the body has no fault
   pub faultless : (blocks : List (List ℕ)) (is_complete : Bool) → answer_to (unfed place) [] ≡ Brings blocks is_complete
       → None ≡ body_closes false (fault_at place)
   faultless blocks is_complete e = sym (brings_nothing blocks is_complete (fault_at place) (sym answered_nothing ∙ e))
 
-  -- or tells it
+  -- if an empty feed is refused, the body has a fault
   pub faulty : (named : BodyFault) → answer_to (unfed place) [] ≡ Refuses named → Some Faulty ≡ body_closes false (fault_at place)
   faulty named e = sym (refuses [] false (fault_at place) named (sym answered_nothing ∙ e)).1
 

@@ -1,4 +1,4 @@
--- What a source is told that is admitted.
+-- What an admitted source reads first.
 use Rattle.std.proofs.Common.{◌≡◌, ℕ, Bool, true, false, List, ap, ◌∙◌, refl, Option, None, Some}
 use Rattle.std.specs.Prelude.{codes, ◌&&◌, if◌then◌else◌}
 use Rattle.std.specs.Str.{bytes_eq}
@@ -21,14 +21,14 @@ use Rattle.radio_answers.specs.declared.web_answers.WebAnswers.{WebAnswers}
 use Rattle.radio_session.proofs.BodyLemmas.{closes_at}
 use Rattle.radio_session.proofs.HeardBodyLemmas.{source_as}
 
--- whatever closes it, it greets as it did
+-- the delivery of a body leaves the greeting as it was
 greets_as : (conversation : Conversation) (events : List Event) (place : Place) (word : Option LastWord)
     → (let says = (body_delivered conversation events place word).conversation.says in greeting_text says.web says.greeting)
     ≡ greeting_text conversation.says.web conversation.says.greeting
 greets_as conversation events place None = refl
 greets_as conversation events place (Some word) = refl
 
--- a source is told by its greeting
+-- an admitted source reads the greeting of its request first
 told_by : (conversation : Conversation) (request : RequestParts) (behind : List ℕ) (framing : Framing) → IsFramed request framing
     → told_when_admitted conversation request behind ≡ greeting_text conversation.says.web (greeting_of request)
 told_by conversation request behind framing framed =

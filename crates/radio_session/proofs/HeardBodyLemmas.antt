@@ -1,4 +1,4 @@
--- A whole body behind its head is heard as its data.
+-- The reading of a whole body after its head is that of its data.
 use Rattle.std.proofs.Common.{◌≡◌, ℕ, Bool, true, false, List, length, take, ap, sym, subst, ◌∙◌, refl, Option, None, Some}
 use Rattle.std.specs.Str.{bytes_eq}
 use Rattle.std.specs.Prelude.{codes}
@@ -17,7 +17,7 @@ use Rattle.radio_session.specs.Bodies.{source_events, IsFramed, SourceEndsBy, Pl
 use Rattle.radio_session.proofs.BodyLemmas.{closes_at}
 use Rattle.radio_session.proofs.CutLemmas.{request_by}
 
--- a source's request is heard by how its data come
+-- the reading of a source's request, by the framing of its data
 heard_as : (source get : Bool) (conversation : Conversation) (request : RequestParts) (behind : List ℕ) (framing : Framing) → source ≡ true
     → framing_of request ≡ Some framing
     → request_by source get conversation request behind ≡ source_heard conversation request behind (Some framing)

@@ -1,4 +1,4 @@
--- What bytes are heard as is one thing.
+-- Bytes that arrive on a connection have one reading.
 use Rattle.std.proofs.Common.{◌≡◌, ℕ, List, ◌++◌, drop, subst, ap, sym, ◌∙◌, refl, inl, inr, Result, Ok, Err, IsErr}
 use Rattle.radio_heads.specs.declared.outcome.Progress.{Progress}
 use Rattle.radio_heads.specs.declared.outcome.Progress.TheVariants.{Whole}
@@ -12,14 +12,14 @@ use Rattle.radio_session.specs.Conversation.{Conversation}
 use Rattle.radio_session.specs.Hearing.{EventReading, HearsAs, head_heard, request_heard, nothing_held}
 use Rattle.radio_session.specs.Laws.{HearingIsOne}
 
--- two faults are heard alike
+-- two faults of a head are read alike
 pub faults-alike : (conversation : Conversation) (bytes : List ℕ) (r s : Result (Progress RequestParts) HeadFault) → IsErr r → IsErr s
     → head_heard conversation bytes r ≡ head_heard conversation bytes s
 faults-alike conversation bytes (Err e) (Err f) h k = refl
 faults-alike conversation bytes (Err e) (Ok p) h k = cc
 faults-alike conversation bytes (Ok p) s h k = cc
 
--- a whole head, with bytes behind it, is heard as a request
+-- a whole head with bytes after it is read as a request
 pub heard_whole : (conversation start : Conversation) (bytes all behind : List ℕ) (request : RequestParts) (n : ℕ) (heard : EventReading)
     → request_heard start request behind ≡ heard → all ≡ conversation.held ++ bytes → IsReading ShowsRequest all (Ok (Whole request n))
     → start ≡ nothing_held conversation → behind ≡ drop n all → HearsAs Head conversation bytes heard
@@ -32,7 +32,7 @@ heard_whole conversation start bytes all behind request n heard e together readi
 )
 
 module _ (agree : ReadingsAgree ShowsRequest) where
-  -- what two readings of the same bytes are heard as is one thing
+  -- two readings of the same bytes as a head are one
   pub heard-alike : (conversation : Conversation) (bytes : List ℕ) (r s : Result (Progress RequestParts) HeadFault) → IsReading ShowsRequest bytes r
       → IsReading ShowsRequest bytes s → head_heard conversation bytes r ≡ head_heard conversation bytes s
   heard-alike conversation bytes r s p q = elim (agree bytes r s p q) [

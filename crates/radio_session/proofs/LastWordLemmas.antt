@@ -1,4 +1,4 @@
--- What a connection is told last names its rule.
+-- What is written last on a connection names its rule.
 use Rattle.std.proofs.Common.{◌≡◌, ℕ, Bool, true, false, List, [], Option, None, Some, refl, ap, sym, subst, ◌∙◌}
 use Rattle.std.specs.Prelude.{codes, if◌then◌else◌}
 use Rattle.radio_policy.specs.declared.rule.Rule.{Rule}
@@ -58,7 +58,7 @@ commands_are_answered says text early = record {
   last_word = refl;
 }
 
--- the last word itself
+-- the connection's own last word
 module _ (says : Says) (word : LastWord) (about : IsAbout says word) where
   by_closing : (bytes text : List ℕ) → EndsWith (noted says (Some (record { awaits = 0; word = word }))) bytes text
       → EndsWith (noted says says.closing) bytes text

@@ -1,4 +1,4 @@
--- What bytes come to that are told in pieces: what they are heard as in one, but for where blocks are cut.
+-- What bytes in pieces exchange is what they exchange in one piece, except for the cuts between blocks.
 use Rattle.std.proofs.Common.{◌≡◌, ℕ, Bool, true, false, List, [], ◌∷◌, ◌++◌, drop, ap, sym, ◌∙◌, refl, subst, Result, Ok, Err, append_assoc}
 use Rattle.std.proofs.Common.{append-nil, Option, None, Some}
 use Rattle.std.specs.Prelude.{codes}
@@ -44,7 +44,7 @@ abbrev pub AreValid : Type 0
 AreValid = (bytes : List ℕ) → All IsBlock (blocks_of bytes)
 
 module _ {S : Type 0} (steps : Steps S) where
-  -- where nothing is heard, nothing is told
+  -- a conversation that ignores its bytes exchanges nothing
   told_nothing : (pieces : List (List ℕ)) (conversation : Conversation) → conversation.hears ≡ Nothing → (from to : S) (x : Exchange)
       → IsToldIn steps conversation pieces from x to → (x ≡ nothing_exchanged conversation.says) × (to ≡ from)
   told_nothing [] conversation hears from to x t = t
@@ -58,7 +58,7 @@ module _ {S : Type 0} (steps : Steps S) where
       let rest = told_nothing pieces conversation hears mid to g.0 (subst (λ (c : Conversation). IsToldIn steps c pieces mid g.0 to) same g.1) in
       (g.2 ∙ ap (λ (z : Exchange). prefixed z.bytes g.0) none.0 ∙ rest.0, rest.1 ∙ none.1)
 
-  -- nor behind one piece after which nothing is heard
+  -- nor anything more after a piece that leaves it so
   told_no_more : (pieces : List (List ℕ)) (conversation : Conversation) → conversation.hears ≡ Nothing
       → (state : State) (mid to : S) (x cut : Exchange) → x.state ≡ state
       → ThenTold state x mid (λ others. IsToldIn steps (saying_now conversation x.says) pieces mid others to) cut to → (cut ≡ x) × (to ≡ mid)
@@ -70,11 +70,11 @@ module _ {S : Type 0} (steps : Steps S) where
       (g.2 ∙ ap (prefixed x.bytes) rest.0 ∙ whole, rest.1)
   told_no_more pieces conversation hears (Shut ending) mid to x cut runs g = g
 
-  -- what is heard at once, is exchanged so
+  -- the events of this reading are exchanged
   abbrev pub AsHeard : ℕ → EventReading → S → Exchange → S → Type 0
   AsHeard id heard from x to = Exchanges steps id heard.conversation.says heard.events from x to
 
-  -- a source's request: refused, or its data in blocks
+  -- the exchange of a source's request: a refusal, or its data in blocks
   abbrev pub AsSource : Option Framing → Conversation → RequestParts → List ℕ → S → Exchange → S → Type 0
   AsSource None conversation request behind from x to = AsHeard conversation.id (refuses conversation BadHead) from x to
   AsSource (Some framing) conversation request behind from x to =
@@ -92,7 +92,7 @@ module _ {S : Type 0} (steps : Steps S) where
       AsRequest (is_source request) (bytes_eq request.method (codes "GET")) (nothing_held conversation) request (drop n bytes) from x to
   AsHead conversation bytes (Err fault) from x to = AsHeard conversation.id (refuses conversation BadHead) from x to
 
-  -- these bytes, in whatever pieces they came
+  -- the exchange of these bytes, in whatever pieces they arrived
   abbrev pub As : Hears → Conversation → List ℕ → S → Exchange → S → Type 0
   As Head conversation bytes from x to =
       (r : Result (Progress RequestParts) HeadFault) × IsReading ShowsRequest (conversation.held ++ bytes) r
@@ -101,7 +101,7 @@ module _ {S : Type 0} (steps : Steps S) where
       (closes_at (after body.place bytes)) from x to
   As Nothing conversation bytes from x to = (x ≡ nothing_exchanged conversation.says) × (to ≡ from)
 
-  -- what was held before a head does not matter
+  -- the bytes that were held before a head do not matter
   head_as : (conversation : Conversation) (held bytes : List ℕ) (r : Result (Progress RequestParts) HeadFault) (from to : S) (x : Exchange)
       → AsHead (record conversation { held = held }) bytes r from x to → AsHead conversation bytes r from x to
   head_as conversation held bytes (Ok More) from to x h = h
@@ -109,12 +109,12 @@ module _ {S : Type 0} (steps : Steps S) where
   head_as conversation held bytes (Err fault) from to x h = h
 
   module _ (joined : AreJoined) (valid : AreValid) (places : PlacesJoin) (found : DataJoin) where
-    -- the rest of a body is told in blocks
+    -- the rest of a body is exchanged in blocks
     abbrev RestIn : List (List ℕ) → Conversation → Place → S → Exchange → S → Type 0
     RestIn pieces conversation place from y to =
         InBlocks steps conversation.id conversation.says [] (data_of place (concat pieces)) (closes_at (after place (concat pieces))) from y to
 
-    -- the first piece of a body, and the others, by how the first closes the conversation
+    -- the first piece of a body and the others, by how the first closes the conversation
     body_first : (pieces : List (List ℕ)) (conversation : Conversation) (before : List Event) (place : Place) (first : List ℕ)
         (word : Option LastWord) (from mid to : S) (x cut : Exchange)
         → conversation.says.closing ≡ None → closes_at (after place first) ≡ word
@@ -196,7 +196,7 @@ module _ {S : Type 0} (steps : Steps S) where
         (subst (λ (c : Conversation). ThenTold one.state one mid (λ z. IsToldIn steps c others mid z to) y to)
         (of_piece.goes_on ∙ ap (λ (h : EventReading). saying_now h.conversation one.says) heard) later)
 
-    -- a body that comes in pieces
+    -- a body in pieces
     body_in : (pieces : List (List ℕ)) (conversation : Conversation) (before : List Event) (place : Place) (first : List ℕ) (from mid to : S) (x cut : Exchange)
         → conversation.says.closing ≡ None → AsHeard conversation.id (body_heard conversation before place first) from x mid
         → ThenTold x.state x mid (λ others. IsToldIn steps (saying_now
@@ -207,12 +207,12 @@ module _ {S : Type 0} (steps : Steps S) where
         body_first pieces conversation before place first (closes_at (after place first)) from mid to x cut is_free refl
         (λ still free_now y t. rest_in pieces (saying_now conversation x.says) (after place first) mid to y free_now still t) e later
 
-    -- a heard piece, behind which the others come
+    -- the exchange of a piece that was read, and of the pieces after it
     abbrev Goes : ℕ → EventReading → List (List ℕ) → S → Exchange → S → Exchange → S → Type 0
     Goes id heard pieces from x mid cut to = AsHeard id heard from x mid
         × ThenTold x.state x mid (λ others. IsToldIn steps (saying_now heard.conversation x.says) pieces mid others to) cut to
 
-    -- behind which nothing is heard
+    -- after this reading the conversation ignores its bytes
     closed_in : (id : ℕ) (heard : EventReading) (pieces : List (List ℕ)) (from mid to : S) (x cut : Exchange) → heard.conversation.hears ≡ Nothing
         → Goes id heard pieces from x mid cut to → AsHeard id heard from cut to
     closed_in id heard pieces from mid to x cut hears (e, later) =
@@ -241,7 +241,7 @@ module _ {S : Type 0} (steps : Steps S) where
         closed_in conversation.id (refuses conversation BadMethod) pieces from mid to x cut refl goes
 
     module _ (settled : IsStableReading ShowsRequest) (fits : HeadsLieWithin ShowsRequest) where
-      -- the first piece of a head, and the others, by what the first is read as
+      -- the first piece of a head and the others, by what the first is read as
       head_first : (pieces : List (List ℕ)) (conversation : Conversation) (first : List ℕ) (r : Result (Progress RequestParts) HeadFault)
           (from mid to : S) (x cut : Exchange)
           → conversation.hears ≡ Head → conversation.says.closing ≡ None → IsReading ShowsRequest (conversation.held ++ first) r
@@ -286,7 +286,7 @@ module _ {S : Type 0} (steps : Steps S) where
             closed_in conversation.id (refuses conversation BadHead) pieces from mid to x cut refl goes,
           )
 
-      -- a piece of a head, as the law has it
+      -- a piece of a head, in the form of the law
       as_goes : (conversation between : Conversation) (heard : EventReading) (piece : List ℕ) (pieces : List (List ℕ)) (from mid to : S) (x cut : Exchange)
           (of_piece : IsTold steps conversation piece from x between mid)
           → of_piece.heard ≡ heard → ThenTold x.state x mid (λ others. IsToldIn steps between pieces mid others to) cut to
@@ -316,7 +316,7 @@ module _ {S : Type 0} (steps : Steps S) where
           (λ more t. head_in pieces (record conversation { held = conversation.held ++ first }) piece from to cut hears is_free t)
           (as_goes conversation between (head_heard conversation (conversation.held ++ first) h.0) first (piece ∷ pieces) from mid to x cut of_piece h.2 later)
 
-      -- any pieces, by what the conversation hears
+      -- any pieces, by how the conversation reads the first
       pieces_in : (hears : Hears) (conversation : Conversation) (first : List ℕ) (pieces : List (List ℕ)) (from to : S) (cut : Exchange)
           → conversation.hears ≡ hears → conversation.says.closing ≡ None
           → IsToldIn steps conversation (first ∷ pieces) from cut to → As hears conversation (concat (first ∷ pieces)) from cut to

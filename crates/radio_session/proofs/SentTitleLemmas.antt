@@ -1,4 +1,4 @@
--- which titles a listener is sent
+-- Which titles a listener is sent.
 use Rattle.std.proofs.Common.{◌≡◌, ℕ, zero, suc, Bool, true, false, List, [], ◌∷◌, ◌++◌, Option, None, Some, refl, ap, sym, ◌∙◌, append-nil}
 use Rattle.std.specs.Str.{bytes_eq}
 use Rattle.std.specs.Option.{option_to_list}
@@ -18,7 +18,7 @@ changes_more [] title changes other = tt
 changes_more (t ∷ []) title changes other = (λ same. other (ap (λ (x : List ℕ). Some x) same), tt)
 changes_more (t ∷ u ∷ titles) title changes other = (changes.0, changes_more (u ∷ titles) title changes.1 other)
 
--- what is news is another title than the one sent last
+-- a title that is news differs from the one sent last
 news_are_other : (title sent : Option (List ℕ)) (news : List ℕ) → news_of title sent ≡ Some news → sent ≡ Some news → ⊥
 news_are_other None sent news e same = cc
 news_are_other (Some title) None news e same = cc
@@ -33,7 +33,7 @@ news_are_other (Some title) (Some sent) news e same = by_test (bytes_eq title se
       let yes_equal = (bytes_eq-Decides title sent).1 equal in
       cc
 
--- after its news, a title is the last one sent
+-- once the news of a title is sent, it is the last title sent
 sent_now : (title : List ℕ) (sent : Option (List ℕ)) → sent_with (news_of (Some title) sent) sent ≡ Some title
 sent_now title None = refl
 sent_now title (Some sent) = by_test (bytes_eq title sent) refl where
@@ -50,7 +50,7 @@ changes_with : (titles : List (List ℕ)) (news sent : Option (List ℕ)) → Ar
 changes_with titles None sent changes e other = rw (append-nil titles) changes
 changes_with titles (Some title) sent changes e other = changes_more titles title changes (λ same. other title refl (sym e ∙ same))
 
--- the last of the titles sent is the one that is said to be sent last
+-- the last of the titles sent in k intervals is the one that `sent_before` names
 sent_last : (n : ℕ) (draws : List Call) (k : ℕ) → last_of_titles (titles_sent n draws k) ≡ sent_before n draws k
 sent_last n draws zero = refl
 sent_last n draws (suc k) = last_with (titles_sent n draws k) (news_at n draws k) (sent_before n draws k) (sent_last n draws k)

@@ -1,4 +1,4 @@
--- what is told on a listener's connection
+-- What is written on a listener's connection.
 use Rattle.std.proofs.Common.{◌≡◌, ℕ, zero, suc, ◌<◌, true, List, [], ◌∷◌, ◌++◌, Option, None, Some, refl, ap, sym, subst, ◌∙◌, arith, map}
 use Rattle.std.specs.Option.{option_map}
 use Rattle.radio_icy.specs.Weaving.{Call, Weaving, new_weaving, woven_by_calls}
@@ -30,15 +30,15 @@ one_draw_on (Some w) c draws = refl
 none_less : (closing : Option Closing) → closing ≡ None → option_map one_less closing ≡ None
 none_less closing e = ap (option_map one_less) e
 
--- a denial after an admission is silent
+-- a denial after an admission writes nothing
 silent : (says : Says) (rule : Rule) → says.is_admitted ≡ true → (denied says rule).bytes ≡ []
 silent says rule e = rw e refl
 
--- and so is what is said of a command
+-- nor does the text of a command
 unsaid : (says : Says) (text : CommandText) → says.is_admitted ≡ true → (texted says text).bytes ≡ []
 unsaid says text e = rw e refl
 
--- on a listener's connection goes out what it draws
+-- what is written on a listener's connection are its draws
 pub draws_follow : (says : Says) (replies : List Reply) → says.is_admitted ≡ true → says.closing ≡ None → AdmitNobody replies
     → told says replies ≡ drawn_by says.weaver (draws_of replies)
 draws_follow says [] a c n = sym (no_draws says.weaver)
@@ -64,7 +64,7 @@ draws_follow_the_head says interval head replies c n =
 pub plain_draws : PlainDrawsAreTheirData
 plain_draws interval draws e = ap (λ (chosen : Option ℕ). drawn_by (option_map new_weaving chosen) draws) e
 
--- an interval that is told is one at least
+-- an interval that a head names is at least one
 some_told : (interval : Option ℕ) (n : ℕ) → sent_interval interval ≡ Some n → 0 < n
 some_told None n e = cc
 some_told (Some zero) n e = cc

@@ -1,4 +1,4 @@
--- What a request asks of the server.
+-- The event that a request means.
 use Rattle.std.specs.Prelude.{ℕ, nat_eq, Bool, ◌||◌, if◌then◌else◌, List, [], codes, Option, None, unwrap_or}
 use Rattle.std.specs.List.{starts_with}
 use Rattle.std.specs.Str.{bytes_eq}
@@ -23,16 +23,16 @@ use Rattle.radio_events.specs.declared.event.Event.{Event}
 use Rattle.radio_events.specs.declared.event.Event.TheVariants.{Source, Listen, Command}
 use Rattle.radio_events.specs.declared.event.PageVisit.{PageVisit}
 
--- the user and the password that it sends, if its `Authorization` has them (RFC 7617)
+-- the user and the password of a request, if its `Authorization` has them (RFC 7617)
 -- rule: Source request; Listen request
 abbrev pub pair_of : RequestParts → Option Credentials
 pair_of request = option_and_then basic_pair (value_of (codes "Authorization") request.headers)
 
--- the value of a header, or the other if there is no such header; an empty value is one
+-- the value of a header, or the other value if there is no such header; an empty value counts as a value
 abbrev pub value_or : List ℕ → List ℕ → RequestParts → List ℕ
 value_or other name request = unwrap_or (value_of name request.headers) other
 
--- what else a source says of its stream: a description, a URL, a bit rate and parameters of the audio
+-- the description, URL, bit rate and audio parameters that a source gives of its stream
 -- rule: Shown fields
 abbrev pub about_by : RequestParts → About
 about_by request = about_of
@@ -41,14 +41,14 @@ about_by request = about_of
     (value_or [] (codes "ice-bitrate") request)
     (value_or [] (codes "ice-audio-info") request)
 
--- a type, a name and a genre; if it names no type, the one that Icecast takes then
+-- the type, name and genre that a source gives; if it names no type, the type is Icecast's default
 abbrev pub named_by : RequestParts → Shown
 named_by request = shown_of
     (value_or default_content_type (codes "Content-Type") request)
     (value_or [] (codes "ice-name") request)
     (value_or [] (codes "ice-genre") request)
 
--- what a source says of its stream: these, and what else it says of the stream
+-- all that a source says of its stream
 -- rule: Shown fields
 abbrev pub shown_by : RequestParts → Shown
 shown_by request = record (named_by request) { about = about_by request }
@@ -58,16 +58,16 @@ shown_by request = record (named_by request) { about = about_by request }
 abbrev pub wants_metadata : RequestParts → Bool
 wants_metadata request = is_word (codes "1") (value_of (codes "Icy-MetaData") request.headers)
 
--- the path of the target: percent decoded (RFC 3986, section 2.1), where `+` stays
+-- the path of the target, percent decoded (RFC 3986, section 2.1); a `+` stays a `+`
 -- rule: Percent decoding
 abbrev pub path_in : RequestParts → List ℕ
 path_in request = percent_decode request.path
 
--- the query behind it; if there is none, an empty one
+-- the query of the target, or an empty one if it has none
 abbrev pub query_in : RequestParts → List ℕ
 query_in request = unwrap_or request.query []
 
--- a path of commands, or of what everybody may see of the station
+-- a path of commands, or the path of the status that everybody may see
 -- rule: Commands by GET
 abbrev pub is_for_commands : List ℕ → Bool
 is_for_commands path = starts_with nat_eq path (codes "/admin/") || bytes_eq path (command_path Status)
@@ -77,17 +77,17 @@ is_for_commands path = starts_with nat_eq path (codes "/admin/") || bytes_eq pat
 abbrev pub asks_to_feed : ℕ → RequestParts → Event
 asks_to_feed id request = Source (record { id = id; mount = path_in request; pair = pair_of request; shown = shown_by request })
 
--- the host by which the client calls the server, if it asks for the status, which has full
+-- the host by which the client calls the server, if it asks for the status, which shows full
 -- addresses
 -- rule: Address of a stream
 abbrev pub host_for : List ℕ → RequestParts → List ℕ
 host_for path request = if bytes_eq path (codes "/status-json.xsl") then value_or [] (codes "Host") request else []
 
--- what a page may say of the server to a client that asks for this path
+-- what a page needs to know of a client that asks for this path: the host that it named, and when the server started
 abbrev pub visit_for : WebAnswers → List ℕ → RequestParts → PageVisit
 visit_for web path request = record { host = host_for path request; server_start = web.server_start }
 
--- a client asks to hear the mount of this path
+-- a client asks to listen to the mount of this path
 abbrev pub asks_to_hear : WebAnswers → ℕ → RequestParts → List ℕ → Event
 asks_to_hear web id request path = Listen (record {
   id = id;
@@ -97,7 +97,7 @@ asks_to_hear web id request path = Listen (record {
   visit = visit_for web path request;
 })
 
--- the pair that counts for a command
+-- the pair that counts for this request: none if the pair is refused to a browser
 -- rule: Commands by a browser
 abbrev pub pair_for : WebAnswers → RequestParts → Asked → Option Credentials
 pair_for web request asked = if is_refused_pair web request asked then None else pair_of request
@@ -108,7 +108,7 @@ abbrev pub gives_command : WebAnswers → ℕ → RequestParts → List ℕ → 
 gives_command web id request path =
     let asked = asked_in path (query_in request) in Command (record { id = id; asked = asked; pair = pair_for web request asked })
 
--- what a GET asks for: a command where its path is one of commands, and else to hear the mount of its path
+-- A GET is a command if its path is one of commands. Else it asks to listen to the mount of its path.
 -- rule: Commands by GET; Listen request
 abbrev pub asks_by_get : WebAnswers → ℕ → RequestParts → Event
 asks_by_get web id request =

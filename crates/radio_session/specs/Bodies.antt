@@ -1,4 +1,4 @@
--- How a source's body is read, behind its head (RFC 9112, section 6).
+-- How a source's body is read, after its head (RFC 9112, section 6).
 use Rattle.std.specs.Prelude.{◌≡◌, ℕ, true, List, [], ◌∷◌, ◌++◌, length, map, codes, Some}
 use Rattle.radio_events.specs.declared.event.Event.{Event}
 use Rattle.radio_events.specs.declared.event.Event.TheVariants.{Push, SourceEnd}
@@ -16,28 +16,28 @@ use Rattle.radio_session.specs.Framing.{is_source, framing_of}
 use Rattle.radio_session.specs.Hearing.{EventReading, request_heard}
 use Rattle.radio_session.specs.Saying.{last_ending}
 
--- a source asks to feed, and its data are these, in blocks
+-- a source asks to feed, and delivers these data in blocks
 abbrev pub source_events : ℕ → RequestParts → List ℕ → List Event
 source_events id request bytes = asks_to_feed id request ∷ map (Push id) (blocks_of bytes)
 
--- the request of a source whose data come so
+-- the request is that of a source, whose data arrive in this framing
 pub record IsFramed (request : RequestParts) (framing : Framing) : Type 0 where
   pub source : is_source request ≡ true
   pub comes : framing_of request ≡ Some framing
 
--- A plain body is all data.
+-- All bytes of a plain body are data.
 -- rule: Framing
 abbrev pub PlainBodiesAreHeard : Type 0
 PlainBodiesAreHeard = (conversation : Conversation) (request : RequestParts) (bytes : List ℕ) → IsFramed request Plain →
     (request_heard conversation request bytes).events ≡ source_events conversation.id request bytes
 
--- A whole sized body is all data, and their end.
+-- All bytes of a whole sized body are data, and then the body ends.
 -- rule: End of a body
 abbrev pub SizedBodiesAreHeard : Type 0
 SizedBodiesAreHeard = (conversation : Conversation) (request : RequestParts) (bytes : List ℕ) → IsFramed request (Sized (length bytes)) →
     (request_heard conversation request bytes).events ≡ source_events conversation.id request bytes ++ SourceEnd conversation.id ∷ []
 
--- A whole body of the chunk grammar is the data of its chunks, and their end.
+-- The data of a whole chunked body are those of its chunks, and then the body ends.
 -- rule: End of a body
 abbrev pub ChunkedBodiesAreHeard : Type 0
 ChunkedBodiesAreHeard = (conversation : Conversation) (request : RequestParts) (body : ChunkedBody) → IsFramed request Chunked → IsBody body →
@@ -51,7 +51,7 @@ pub record SourceEndsBy (id : ℕ) (word : List ℕ) (heard : EventReading) : Ty
   pub closing : heard.conversation.says.closing ≡ Some (record { awaits = length before; word = last })
   pub is_last_word : ending_word (last_ending last) ≡ word
 
--- A chunked body with a byte that no such body has there ends by that fault, and not as if it were whole.
+-- A chunked body with a byte that no chunked body has there ends with the word `bad-body`, not as if it were whole.
 abbrev pub FaultyBodiesAreHeard : Type 0
 FaultyBodiesAreHeard = (conversation : Conversation) (request : RequestParts) (bytes : List ℕ) → IsFramed request Chunked → after chunked_start bytes ≡ Broken →
     SourceEndsBy conversation.id (codes "bad-body") (request_heard conversation request bytes)

@@ -1,4 +1,4 @@
--- What the path of a command and its arguments ask of the server.
+-- What the path of a command and its arguments ask for.
 use Rattle.std.specs.Prelude.{ℕ, List, Option, Result, Ok, Err}
 use Rattle.radio_admin.specs.declared.command.Command.{Command as Read}
 use Rattle.radio_admin.specs.declared.command.Command.TheVariants as read
@@ -15,7 +15,7 @@ use Rattle.radio_events.specs.declared.command.Listing.TheVariants as shows
 use Rattle.radio_values.specs.Cleaning.{cleaned}
 use Rattle.radio_values.specs.Limits.{max_title}
 
--- a command that was read, whose title is cleaned; some ask for a listing
+-- what a command that was read asks for: a listing or a command; a title is cleaned
 -- rule: Commands by GET
 abbrev pub asked_with : Read → Asked
 asked_with (read.MoveClients sent) = Command (asks.MoveClients sent.mount sent.destination)
@@ -31,21 +31,21 @@ asked_with read.ListMounts = Listing shows.Mounts
 asked_with (read.ListClients mount) = Listing (shows.Clients mount)
 asked_with read.StreamList = Listing shows.Streams
 
--- a command of this kind lacks an argument, and this mount was named, if one was: a title or a fallback may be set by the mount's source,
--- the others are the admin's alone
+-- A command of this kind lacks an argument, and names this mount, if any. The mount's source may set a title or a fallback; the
+-- other commands are the admin's alone.
 -- rule: Missing argument
 abbrev pub lacking : CommandKind → Option (List ℕ) → Asked
 lacking Metadata mount = MissingArgument (Source mount)
 lacking Fallbacks mount = MissingArgument (Source mount)
 lacking kind mount = MissingArgument Admin
 
--- by what was read
+-- what the result of the reader asks for
 abbrev pub asked_by : Result Read AdminFault → Asked
 asked_by (Ok command) = asked_with command
 asked_by (Err (fault.MissingArgument kind mount)) = lacking kind mount
 asked_by (Err other) = NoCommand
 
--- a path, and the query behind it
+-- what a path and its query ask for
 -- rule: Commands by GET
 abbrev pub asked_in : List ℕ → List ℕ → Asked
 asked_in path query = asked_by (command_in path query)

@@ -8,7 +8,8 @@ use Rattle.radio_session.specs.declared.session.Says.{Says}
 use Rattle.radio_session.specs.declared.session.Greeting.TheVariants.{Welcome}
 use Rattle.radio_answers.specs.declared.web_answers.WebAnswers.{WebAnswers}
 
--- the number of its client and its peer, the bytes of an unfinished head, how it goes on in both directions, and whether a call was refused for want of memory
+-- A conversation: the number of its client, its peer and the bytes of an unfinished head. Then how it reads and writes next, and
+-- whether a call was refused memory.
 pub record Conversation : Type 0 where
   pub id : ℕ
   pub peer : Peer
@@ -17,20 +18,20 @@ pub record Conversation : Type 0 where
   pub says : Says
   pub has_failed : Bool
 
--- a body that is being read has given neither its end nor a fault
+-- the body that a connection is reading has answered neither its end nor a fault
 abbrev pub IsOpen : Hears → Type 0
 IsOpen Head = Unit {0}
 IsOpen (Body body) = body ≡ unfed body.place
 IsOpen Nothing = Unit {0}
 
--- nothing was admitted yet
+-- how replies are written before anything was admitted
 abbrev pub asking : WebAnswers → Says
 asking web = record { web = web; is_admitted = false; greeting = Welcome; closing = None; weaver = None }
 
--- a conversation in which nothing was said yet
+-- a conversation in which nothing was read or written yet
 abbrev pub fresh : WebAnswers → ℕ → Peer → Conversation
 fresh web id peer = record { id = id; peer = peer; held = []; hears = Head; says = asking web; has_failed = false }
 
--- how replies are written from now on
+-- the same conversation, which writes replies this way from now on
 abbrev pub saying_now : Conversation → Says → Conversation
 saying_now conversation says = record conversation { says = says }

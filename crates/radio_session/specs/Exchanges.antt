@@ -1,4 +1,4 @@
--- The result of a connection's events, one after another, whoever applies them.
+-- What a server and a connection exchange: each event of the connection is applied, and its reply is written.
 use Rattle.std.specs.Prelude.{◌≡◌, ℕ, Bool, true, false, List, [], ◌∷◌, ◌++◌}
 use Rattle.radio_events.specs.declared.event.Event.{Event}
 use Rattle.radio_events.specs.declared.event.Event.TheVariants.{Leave}
@@ -21,11 +21,11 @@ pub record Exchange : Type 0 where
 abbrev pub nothing_exchanged : Says → Exchange
 nothing_exchanged says = record { bytes = []; says = says; state = Running }
 
--- these bytes went out before it
+-- the exchange after these bytes
 abbrev pub prefixed : List ℕ → Exchange → Exchange
 prefixed bytes x = record x { bytes = bytes ++ x.bytes }
 
--- it ends with this
+-- the connection ends with this
 abbrev pub ended_with : Said → Ending → Exchange
 ended_with written ending = record { bytes = written.bytes; says = written.says; state = Shut ending }
 
@@ -33,8 +33,8 @@ abbrev pub is_leave : Event → Bool
 is_leave (Leave id) = true
 is_leave event = false
 
--- the events are applied one after another, and each reply is written. If the connection ends, the others are not applied, and the client leaves,
--- unless that is what it has just done
+-- The events are applied one after another, and each reply is written. If the connection ends, the other events are not applied.
+-- The client then leaves, unless it has just left.
 module _ {S : Type 0} (steps : Steps S) (id : ℕ) where
   abbrev pub LeavesAfter : Bool → S → S → Type 0
   LeavesAfter true from to = to ≡ from

@@ -1,4 +1,4 @@
--- How the data of a source come (RFC 9112, section 6): what its head says of it.
+-- How the data of a source arrive, by its head (RFC 9112, section 6).
 use Rattle.std.specs.Prelude.{ℕ, Bool, false, ◌&&◌, ◌||◌, if◌then◌else◌, List, codes, Option, None, Some, option_map}
 use Rattle.std.specs.Str.{bytes_eq}
 use Rattle.radio_texts.specs.Numbers.{number_of}
@@ -23,7 +23,7 @@ coded coding = if is_same_name coding (codes "chunked") then Some Chunked else N
 abbrev pub sized : List ℕ → Option Framing
 sized length = option_map Sized (number_of 10 18446744073709551615 length)
 
--- by the coding and by the length that a head gives; it gives one of them at most
+-- the framing by the coding and the length of a head, which has at most one of them
 -- rule: Framing; Two lengths; Bad framing
 abbrev pub framed_by : Option (List ℕ) → Option (List ℕ) → Option Framing
 framed_by None None = Some Plain
@@ -39,7 +39,7 @@ is_put request = bytes_eq request.method (codes "PUT")
 abbrev pub is_source : RequestParts → Bool
 is_source request = bytes_eq request.method (codes "SOURCE") || is_put request
 
--- the data of a PUT come as its headers say, those of a SOURCE come plain
+-- the data of a PUT arrive as its headers say, those of a SOURCE are plain
 -- rule: Framing
 abbrev pub framing_of : RequestParts → Option Framing
 framing_of request =
@@ -47,7 +47,7 @@ framing_of request =
     then framed_by (unless_identity (value_of (codes "Transfer-Encoding") request.headers)) (value_of (codes "Content-Length") request.headers)
     else Some Plain
 
--- before the first of the data
+-- the place before the first data
 -- rule: Framing
 abbrev pub start_of : Framing → Place
 start_of Plain = plain_start
@@ -59,7 +59,7 @@ abbrev pub is_word : List ℕ → Option (List ℕ) → Bool
 is_word word None = false
 is_word word (Some value) = is_same_name value word
 
--- the client waits for a first answer before it sends its data (RFC 9110, section 10.1.1)
+-- what the source reads first: `100 Continue` if it waits for that before it sends its data (RFC 9110, section 10.1.1)
 -- rule: Greeting of a source
 abbrev pub greeting_of : RequestParts → Greeting
 greeting_of request =

@@ -1,4 +1,4 @@
--- What an admitted source reads first, by what it has asked.
+-- What an admitted source reads first, by its request.
 use Rattle.std.specs.Prelude.{◌≡◌, ℕ, true, List, codes, Some}
 use Rattle.std.specs.Str.{bytes_eq}
 use Rattle.radio_events.specs.declared.reply.Reply.TheVariants.{Feeding}
@@ -19,16 +19,16 @@ pub record WaitsToGoOn (request : RequestParts) : Type 0 where
   pub expects : value_of (codes "Expect") request.headers ≡ Some expected
   pub named : is_same_name expected (codes "100-continue") ≡ true
 
--- what a source reads first that asked so, and is admitted
+-- what the source of this request reads first, if it is admitted
 abbrev pub told_when_admitted : Conversation → RequestParts → List ℕ → List ℕ
 told_when_admitted conversation request behind = (said (request_heard conversation request behind).conversation.says Feeding).bytes
 
--- A source that waits for it reads that it may go on.
+-- A source that waits to go on reads `100 Continue` first.
 abbrev pub WhoWaitsIsToldToGoOn : Type 0
 WhoWaitsIsToldToGoOn = (conversation : Conversation) (request : RequestParts) (behind : List ℕ) (framing : Framing) → IsFramed request framing
     → WaitsToGoOn request → told_when_admitted conversation request behind ≡ continue_text
 
--- No other source does: it reads that it was admitted.
+-- Each other source reads that it is admitted.
 abbrev pub NobodyElseIsToldToGoOn : Type 0
 NobodyElseIsToldToGoOn = (conversation : Conversation) (request : RequestParts) (behind : List ℕ) (framing : Framing) → IsFramed request framing
     → (WaitsToGoOn request → ⊥) → told_when_admitted conversation request behind ≡ answered_by conversation.says.web source_text

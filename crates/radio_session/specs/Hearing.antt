@@ -1,4 +1,4 @@
--- From the bytes that come on a connection to events.
+-- From the bytes that arrive on a connection to events.
 use Rattle.std.specs.Prelude.{◌≡◌, ℕ, Bool, true, false, List, [], ◌∷◌, ◌++◌, length, drop, codes, Option, None, Some, if◌then◌else◌, Result, Ok, Err}
 use Rattle.std.specs.Str.{bytes_eq}
 use Rattle.radio_policy.specs.declared.rule.Rule.{Rule}
@@ -23,16 +23,16 @@ use Rattle.radio_session.specs.Asking.{asks_to_feed, asks_by_get}
 use Rattle.radio_session.specs.Conversation.{Conversation}
 use Rattle.radio_session.specs.Pushes.{pushes}
 
--- what was read: events for the server, and the conversation after them
+-- the result of reading bytes: events for the server, and the conversation after them
 pub record EventReading : Type 0 where
   pub events : List Event
   pub conversation : Conversation
 
--- what comes next is read so, and no bytes are held
+-- the conversation reads the next bytes this way, and holds none
 abbrev pub going_on : Conversation → Hears → Conversation
 going_on conversation hears = record conversation { held = []; hears = hears }
 
--- after these events the last is applied, which closes the conversation: its reply is written with the
+-- after these events the last one is applied, which closes the conversation: its reply brings the
 -- last word
 abbrev pub closes_with : Conversation → List Event → Event → LastWord → EventReading
 closes_with conversation events last word = record {
@@ -40,50 +40,51 @@ closes_with conversation events last word = record {
   conversation = record (going_on conversation Nothing) { says = record conversation.says { closing = Some (record { awaits = length events; word = word }) } };
 }
 
--- the head is over
+-- the conversation after a whole head
 abbrev pub nothing_held : Conversation → Conversation
 nothing_held conversation = record conversation { held = [] }
 
--- the connection refuses by its own rule: the client leaves, and then reads the rule
+-- the connection refuses by its own rule: the client leaves, and then reads a denial that names the rule
 -- rule: Bad head; Bad method
 abbrev pub refuses : Conversation → Rule → EventReading
 refuses conversation rule = closes_with conversation [] (Leave conversation.id) (Refusal rule)
 
--- how a body closes the conversation: it is whole, or there is a fault in it
+-- how a body closes the conversation: by its end or by a fault
 -- rule: End of a body
 abbrev pub body_closes : Bool → Option BodyFault → Option LastWord
 body_closes true fault = Some Complete
 body_closes false (Some fault) = Some Faulty
 body_closes false None = None
 
--- the data of a body are delivered after the events before; if the body closes, the source's data have ended
+-- The events before and those of a body's data are delivered. If the body closes the conversation, the end of the source's data
+-- follows.
 abbrev pub body_delivered : Conversation → List Event → Place → Option LastWord → EventReading
 body_delivered conversation events place None = record { events = events; conversation = going_on conversation (Body (unfed place)) }
 body_delivered conversation events place (Some word) = closes_with conversation events (SourceEnd conversation.id) word
 
--- these bytes of a body, that come at a place in it
+-- the reading of bytes of a body, which begin at this place in it
 -- rule: End of a body
 abbrev pub body_heard : Conversation → List Event → Place → List ℕ → EventReading
 body_heard conversation before place bytes =
     body_delivered conversation (before ++ pushes conversation.id (data_of place bytes)) (after place bytes)
     (body_closes (has_ended (after place bytes)) (fault_at (after place bytes)))
 
--- what the client reads if it is admitted as a source
+-- the conversation that knows what this client reads first if it is admitted as a source
 abbrev pub greeted : Conversation → RequestParts → Conversation
 greeted conversation request = record conversation { says = record conversation.says { greeting = greeting_of request } }
 
--- a source's head has come, whose data come so, and the first of them
+-- the reading of a source's head and the bytes after it, by the framing of the data
 -- rule: Source request
 abbrev pub source_heard : Conversation → RequestParts → List ℕ → Option Framing → EventReading
 source_heard conversation request behind None = refuses conversation BadHead
 source_heard conversation request behind (Some framing) =
     body_heard (greeted conversation request) (asks_to_feed conversation.id request ∷ []) (start_of framing) behind
 
--- a GET has come, by which a client asks to hear a mount, or gives a command
+-- the reading of a GET, by which a client asks to listen to a mount, or gives a command
 abbrev pub get_heard : Conversation → RequestParts → EventReading
 get_heard conversation request = record { events = asks_by_get conversation.says.web conversation.id request ∷ []; conversation = going_on conversation Nothing }
 
--- a head has come, with these bytes behind it: SOURCE and PUT feed the mount of its path, GET hears it or gives a command
+-- The reading of a head and the bytes after it. SOURCE and PUT feed the mount of the path. GET listens to it, or gives a command.
 -- rule: Bad method; Source request
 abbrev pub request_heard : Conversation → RequestParts → List ℕ → EventReading
 request_heard conversation request behind =
@@ -91,7 +92,7 @@ request_heard conversation request behind =
     else if bytes_eq request.method (codes "GET") then get_heard conversation request
     else refuses conversation BadMethod
 
--- what these bytes, all that have come, are read as
+-- the reading of all bytes of a head so far
 -- rule: Bad head
 abbrev pub head_heard : Conversation → List ℕ → Result (Progress RequestParts) HeadFault → EventReading
 head_heard conversation bytes (Ok More) = record { events = []; conversation = record conversation { held = bytes } }
@@ -105,6 +106,6 @@ HearsAs Head conversation bytes heard = (reading : Result (Progress RequestParts
 HearsAs (Body body) conversation bytes heard = heard ≡ body_heard (nothing_held conversation) [] body.place bytes
 HearsAs Nothing conversation bytes heard = heard ≡ record { events = []; conversation = conversation }
 
--- the bytes come on the connection, and this is read
+-- this is a reading of the bytes that arrive on the connection
 abbrev pub IsHeard : Conversation → List ℕ → EventReading → Type 0
 IsHeard conversation bytes heard = HearsAs conversation.hears conversation bytes heard

@@ -5,17 +5,17 @@ use Rattle.radio_session.specs.Conversation.{Conversation, saying_now}
 use Rattle.radio_session.specs.Hearing.{EventReading, IsHeard}
 use Rattle.radio_session.specs.Saying.{said}
 
--- bytes that come on a connection have one meaning
+-- bytes that arrive on a connection have one meaning
 abbrev pub HearingIsOne : Type 0
 HearingIsOne = (conversation : Conversation) (bytes : List ℕ) (one other : EventReading) → IsHeard conversation bytes one → IsHeard conversation bytes other
     → one ≡ other
 
--- What is read fails no session.
+-- Reading bytes fails no session.
 abbrev pub HearingFailsNothing : Type 0
 HearingFailsNothing = (conversation : Conversation) (bytes : List ℕ) (heard : EventReading) → IsHeard conversation bytes heard
     → heard.conversation.has_failed ≡ conversation.has_failed
 
--- Nor does what is written.
+-- Writing a reply fails no session.
 abbrev pub TellingFailsNothing : Type 0
 TellingFailsNothing =
     (conversation : Conversation) (reply : Reply) → (saying_now conversation (said conversation.says reply).says).has_failed ≡ conversation.has_failed

@@ -4,7 +4,7 @@ use Rattle.radio_blocks.specs.Cutting.{blocks_of}
 use Rattle.radio_events.specs.declared.event.Event.{Event}
 use Rattle.radio_events.specs.declared.event.Event.TheVariants.{Push}
 
--- a source delivers the blocks of some data, one after another
+-- the events by which a source delivers some data, block after block
 -- rule: Cut into blocks
 abbrev pub pushes : ℕ → List ℕ → List Event
 pushes id bytes = map (Push id) (blocks_of bytes)

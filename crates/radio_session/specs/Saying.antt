@@ -1,4 +1,4 @@
--- From replies to the bytes that go out on a connection.
+-- From replies to the bytes that are written on a connection.
 use Rattle.std.specs.Prelude.{ℕ, ◌-◌, ◌==◌, true, List, [], Option, None, Some, option_map, if◌then◌else◌}
 use Rattle.radio_policy.specs.declared.rule.Rule.{Rule}
 use Rattle.radio_events.specs.declared.reply.Reply.{Reply}
@@ -27,15 +27,15 @@ pub record Said : Type 0 where
   pub says : Says
   pub state : State
 
--- these bytes, and it goes on
+-- these bytes are written, and the connection goes on
 abbrev pub tells : List ℕ → Says → Said
 tells bytes says = record { bytes = bytes; says = says; state = Running }
 
--- these bytes, and it ends
+-- these bytes are written, and the connection ends
 abbrev pub ends : List ℕ → Says → Ending → Said
 ends bytes says ending = record { bytes = bytes; says = says; state = Shut ending }
 
--- one reply less is awaited before that with the last word
+-- one reply fewer is awaited before the one with the last word
 abbrev pub one_less : Closing → Closing
 one_less closing = record closing { awaits = closing.awaits - 1 }
 
@@ -50,7 +50,7 @@ admitted says = counted_down (record says { is_admitted = true })
 abbrev pub listener_admitted : Says → Option ℕ → Says
 listener_admitted says interval = admitted (record says { weaver = weaver_at interval })
 
--- it has drawn
+-- a listener has drawn
 abbrev pub drew : Says → Call → Says
 drew says draw = counted_down (record says { weaver = after_draw says.weaver draw })
 
@@ -60,21 +60,21 @@ abbrev pub greeting_text : WebAnswers → Greeting → List ℕ
 greeting_text web Welcome = answered_by web source_text
 greeting_text web Continue = continue_text
 
--- what a source reads whose body has ended: the answer, if it was only asked to go on before
+-- what a source reads at the end of its body: the answer that it is admitted, if it only read `100 Continue` before
 abbrev pub body_text : WebAnswers → Greeting → List ℕ
 body_text web Welcome = []
 body_text web Continue = answered_by web source_text
 
--- the policy denies: in an answer where nothing was admitted, else by closing alone
+-- The policy denies. If nothing was admitted, an answer says so. Else the connection closes without one.
 -- rule: Answer to a denial; Greeting of a source
 abbrev pub denied : Says → Rule → Said
 denied says rule = ends (if says.is_admitted then [] else denial says.web rule) says (By rule)
 
--- a command was done: it is said in an answer where nothing was admitted, else by closing alone
+-- A command was done. If nothing was admitted, an answer says so. Else the connection closes without one.
 abbrev pub texted : Says → CommandText → Said
 texted says text = ends (if says.is_admitted then [] else text_answer says.web text) says Done
 
--- the last word of the connection itself: its bytes, and how the connection ends
+-- the bytes of the connection's own last word
 -- rule: Greeting of a source
 abbrev pub last_text : WebAnswers → Greeting → LastWord → List ℕ
 last_text web greeting (Refusal rule) = denial web rule
@@ -87,14 +87,14 @@ last_ending (Refusal rule) = By rule
 last_ending Complete = Done
 last_ending Faulty = BadBody
 
--- nothing to say, but for the connection's own last word where no other reply is awaited before it
+-- Nothing is written, except the connection's own last word if no other reply is awaited before it.
 -- rule: Bad method
 abbrev pub noted : Says → Option Closing → Said
 noted says None = tells [] says
 noted says (Some closing) =
     if closing.awaits == 0 then ends (last_text says.web says.greeting closing.word) says (last_ending closing.word) else tells [] (counted_down says)
 
--- what is written of a reply
+-- what is written for a reply
 -- rule: Answer to a denial
 abbrev pub said : Says → Reply → Said
 said says (Arrived id) = tells [] (counted_down says)

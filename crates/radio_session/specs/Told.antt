@@ -1,4 +1,5 @@
--- What is written on a listener's connection: its head, and then the data of its draws, with metadata between them if it asked for it.
+-- What is written on a listener's connection: its head, and then the data of its draws, with metadata between them if it asked
+-- for that.
 use Rattle.std.specs.Prelude.{◌≡◌, ℕ, List, [], ◌∷◌, ◌++◌, map, Option, None, Some}
 use Rattle.radio_icy.specs.Block.{title_text}
 use Rattle.radio_icy.specs.Weaving.{Call}
@@ -21,7 +22,7 @@ abbrev pub while_open : State → List ℕ → List ℕ
 while_open Running later = later
 while_open (Shut ending) later = []
 
--- all that is written of replies, one after another, up to the end of the connection
+-- all that is written for replies, one after another, up to the end of the connection
 abbrev pub told : Says → List Reply → List ℕ
 told says [] = []
 told says (reply ∷ replies) = (said says reply).bytes ++ while_open (said says reply).state (told (said says reply).says replies)
@@ -35,36 +36,36 @@ draws_of (Deny rule ∷ replies) = []
 draws_of (Finished rule ∷ replies) = []
 draws_of (reply ∷ replies) = draws_of replies
 
--- none of the replies admits: who is admitted is not admitted again
+-- none of the replies admits a client: an admitted client is not admitted again
 abbrev pub AdmitNobody : List Reply → Type 0
 AdmitNobody [] = Unit {0}
 AdmitNobody (Feeding ∷ replies) = ⊥
 AdmitNobody (Seated interval head ∷ replies) = ⊥
 AdmitNobody (reply ∷ replies) = AdmitNobody replies
 
--- What follows a listener's head on its connection are the joined data of its draws, woven at the interval that the head names.
+-- A listener's head is followed by the joined data of its draws, woven at the interval that the head names.
 abbrev pub DrawsFollowTheHead : Type 0
 DrawsFollowTheHead = (says : Says) (interval : Option ℕ) (head : StreamHead) (replies : List Reply) →
     says.closing ≡ None → AdmitNobody replies →
     told says (Seated interval head ∷ replies)
     ≡ head_text says.web interval head ++ joined_draws interval (draws_of replies)
 
--- if it names none, they are the data alone
+-- if the head names no interval, they are the data alone
 abbrev pub PlainDrawsAreTheirData : Type 0
 PlainDrawsAreTheirData = (interval : Option ℕ) (draws : List Call) →
     sent_interval interval ≡ None → joined_draws interval draws ≡ sound_of_calls draws
 
--- If it names one, a block follows each interval of the data. It has the title of the draw that brought the interval's last byte,
--- if another was sent last, or none; else it is a zero byte.
+-- If it names one, a block follows each interval of the data. The block has the title of the draw that brought the interval's
+-- last byte, if it has one other than the title sent last. Else the block is a zero byte.
 abbrev pub JoinedDrawsAreWoven : Type 0
 JoinedDrawsAreWoven = (interval : Option ℕ) (n : ℕ) (draws : List Call) →
     sent_interval interval ≡ Some n → IsWoven n draws (joined_draws interval draws)
 
--- what is taken out of these bytes
+-- what a player takes out of these bytes: data, and texts of titles
 abbrev pub taken_out : ℕ → List ℕ → List StreamItem
 taken_out n bytes = atoms_of_piece (new_unweaving n) bytes
 
--- Taken out again, they are the data of the draws and the texts of the titles that were sent.
+-- Taken out of the stream, the data are those of the draws, and the texts are those of the titles that were sent.
 abbrev pub DrawsAreTakenOutAgain : Type 0
 DrawsAreTakenOutAgain = (interval : Option ℕ) (n : ℕ) (draws : List Call) → sent_interval interval ≡ Some n →
     (sound_in (taken_out n (joined_draws interval draws)) ≡ sound_of_calls draws)

@@ -1,4 +1,4 @@
-//! A connection's events, exchanged with whoever applies them.
+//! Applies a connection's events to a server, and writes the replies.
 
 ghost use Rattle.std.specs.Prelude.{◌≡◌, ◌++◌, IfOk};
 ghost use Rattle.radio_events.specs.declared.reply.Reply.{Reply as ReplyOf};
@@ -10,10 +10,12 @@ use crate::OutOfMemory;
 use crate::session::Session;
 use radio_events::{Event, Reply, Server, State};
 
-/// Applies the events of the connection's client, one after another, and appends the bytes of each reply to `out`. Once
-/// the connection ends, the others are not applied, and the client leaves. Returns whether the connection goes on.
+/// Applies the events of the connection's client, one after another, and appends the bytes of each reply to `out`.
+/// Once the connection ends, it applies `Leave` in place of the remaining events. Returns whether the connection goes
+/// on. It applies no second `Leave` if the event that ended the connection was one.
 ///
-/// `OutOfMemory` if memory was refused; nothing is said of the server then, and the connection is to be shut.
+/// `OutOfMemory` if memory was refused. The contract then says nothing of the server, and the caller shuts the
+/// connection.
 pub fn exchange<S: Server>(
     server: &mut S,
     session: &mut Session,
@@ -34,8 +36,8 @@ pub fn exchange<S: Server>(
     Ok(State::Running)
 }
 
-/// Applies one event of the connection's client, and writes the reply. Returns whether the
-/// connection goes on.
+/// Applies one event of the connection's client, and appends the bytes of the reply. Returns whether
+/// the connection goes on.
 fn answer<S: Server>(
     server: &mut S,
     session: &mut Session,
@@ -50,7 +52,7 @@ fn answer<S: Server>(
     session.give(reply, out)
 }
 
-/// The client leaves, unless that is what it has just done.
+/// Applies `Leave` for the client, unless it has just left.
 fn leave_after<S: Server>(server: &mut S, id: u64, has_left: bool) -> Result<(), OutOfMemory>
     ensures { IfOk result (λ _. LeavesAfter S.steps id has_left server.old server.new) }
 {
@@ -60,7 +62,7 @@ fn leave_after<S: Server>(server: &mut S, id: u64, has_left: bool) -> Result<(),
     Ok(())
 }
 
-/// Whether the client leaves by this event.
+/// Returns whether the client leaves by this event.
 fn is_leave(event: &Event) -> bool
     ensures { result ≡ is_leave event.now }
 {

@@ -1,8 +1,8 @@
-//! One connection's conversation with the server: from the bytes that come on it to events, and
-//! from replies to the bytes that go out on it.
+//! One connection's conversation with the server. It turns the bytes that arrive into events, and
+//! replies into the bytes to write. Read [`Session`] first.
 //!
-//! - [`WebAnswers`] of `radio_answers`: what the settings say of answers, and of commands that browsers give.
-//! - [`Session`]: the connection. [`Session::take`] takes the bytes that come, and returns the
+//! - [`WebAnswers`] of `radio_answers`: the settings for answers, and for commands that browsers send.
+//! - [`Session`]: the conversation. [`Session::take`] takes the bytes that arrive, and returns the
 //!   events that they mean. [`Session::give`] takes the reply to each event, and appends the bytes
 //!   to write.
 //! - [`exchange`]: applies the events of a connection to a [`Server`], one after another, and

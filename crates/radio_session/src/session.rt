@@ -1,4 +1,4 @@
-//! A connection: what it reads, and what it writes.
+//! A connection's conversation: how its bytes are read, and how replies are written. Read [`Session`] first.
 
 ghost use Rattle.std.specs.Prelude.{◌≡◌};
 ghost use Rattle.radio_session.specs.Conversation.{Conversation, fresh};
@@ -20,71 +20,72 @@ mod hearing;
 mod saying;
 mod weaving;
 
-/// What the bytes that come on a connection are read as.
+/// How the next bytes of a connection are read.
 #[derive(Drop)]
 pub(crate) enum Hears {
-    /// The head of a request, of which a part may have come.
+    /// As the head of a request. A part of it may have arrived.
     Head,
-    /// A source's body.
+    /// As a source's body.
     Body(KeptBody),
-    /// Nothing: they are passed over.
+    /// Not at all: the connection ignores them.
     Nothing,
 }
 
-/// What an admitted source reads first.
+/// The first answer to an admitted source.
 #[derive(Clone, Copy, PartialEq, Eq)]
 pub(crate) enum Greeting {
-    /// That it is admitted.
+    /// The answer that it is admitted.
     Welcome,
-    /// That it may go on (RFC 9110, section 15.2.1); that it was admitted once its body has come.
+    /// `100 Continue` (RFC 9110, section 15.2.1). The answer that it is admitted follows once its body is whole.
     Continue,
 }
 
-/// The last word that a connection writes by its own rule.
+/// Why a connection ends by its own rule. This decides what it writes last.
 #[derive(Clone, Copy)]
 pub(crate) enum LastWord {
-    /// What came is refused by the connection's own rule.
+    /// The denial by this rule: the connection refuses what arrived.
     Refusal(Rule),
-    /// The body is whole.
+    /// The end of a whole body.
     Complete,
-    /// There is a fault in the body.
+    /// The end of a body with a fault.
     Faulty,
 }
 
-/// How a connection closes by itself.
+/// How a connection closes by its own rule.
 #[derive(Clone, Copy)]
 pub(crate) struct Closing {
-    /// How many replies come before that with which it writes its last word.
+    /// The number of replies before the one with which the connection writes its last word.
     pub(crate) awaits: usize,
     pub(crate) word: LastWord,
 }
 
-/// How replies are written.
+/// How the connection writes replies.
 #[derive(Drop)]
 pub(crate) struct Says {
-    /// What the settings say of it.
-    pub(crate) web: WebAnswers,
     pub(crate) closing: Option<Closing>,
-    /// What puts metadata between a listener's data, if it is sent any.
+    /// Puts metadata blocks between a listener's data. `None` if the listener gets none.
     pub(crate) weaver: Option<Weaver>,
-    /// A source or a listener was admitted: a denial only closes the connection.
+    /// Whether a source or a listener was admitted. A later denial only closes the connection.
     pub(crate) is_admitted: bool,
     pub(crate) greeting: Greeting,
+    /// The settings for answers. They come last, since a listener's draw does not read them.
+    pub(crate) web: WebAnswers,
 }
 
-/// One connection: the number of its client, its peer, the bytes of an unfinished head, and how it goes on in both
-/// directions.
+/// One connection's conversation: its client's number, its peer, the bytes of an unfinished head, and how it reads
+/// and writes next.
 ///
 /// Its caller applies the events that [`Session::take`] returns, one after another, and gives each reply to
-/// [`Session::give`], as [`exchange`](crate::exchange) does. Once that returns `Shut`, the other events are not
-/// applied, and the client leaves, unless a `Leave` was the last event.
+/// [`Session::give`], as [`exchange`](crate::exchange) does. Once `give` returns `Shut`, the caller applies `Leave`
+/// in place of the remaining events, unless a `Leave` was the last event.
 ///
-/// It keeps at most the 8192 bytes of a head, and nothing of a body. A call that was refused memory fails the session:
-/// each later call is refused too, and its connection is to be shut.
+/// It keeps at most 8192 bytes of an unfinished head. Of a body it keeps no data, only an unfinished chunk line. A
+/// call that is refused memory fails the session. Then each later call is refused too, and the caller shuts the
+/// connection.
 ///
-/// Contracts see a `Conversation`.
+/// In contracts its value is a `Conversation`.
 pub struct Session {
-    // what a listener's draw reads comes first, and lies together
+    // a listener's draw reads the fields that come first, so they lie together
     alloc: Global,
     id: u64,
     has_failed: bool,
@@ -131,9 +132,9 @@ impl Model for Session {
 }
 
 impl Session {
-    /// Returns the session of the client of this number, whose connection comes from this peer, with what the settings
-    /// say of its answers. It takes no memory now, and keeps `alloc` for later. If the server does not admit a
-    /// connection, its denial is given to a session of number 0.
+    /// Returns the session of the client of this number, whose connection comes from this peer. `web` has the
+    /// settings for its answers. It takes no memory now, and keeps `alloc` for later. If the server does not admit a
+    /// connection, the caller gives the denial to a session of number 0.
     pub fn new(alloc: Global, web: WebAnswers, id: u64, peer: Peer) -> Session
         ensures { result ≡ fresh web id peer }
     {
@@ -142,11 +143,11 @@ impl Session {
             id,
             has_failed: false,
             says: Says {
-                web,
                 is_admitted: false,
                 greeting: Greeting::Welcome,
                 closing: None,
                 weaver: None,
+                web,
             },
             peer,
             held: Vec::new(alloc),
@@ -154,14 +155,14 @@ impl Session {
         }
     }
 
-    /// Returns the number of its client.
+    /// Returns the number of the session's client.
     pub fn id(&self) -> u64
         ensures { result ≡ self.now.id }
     {
         self.id
     }
 
-    /// Returns the peer that its connection comes from.
+    /// Returns the peer from which the session's connection comes.
     pub fn peer(&self) -> Peer
         ensures { result ≡ self.now.peer }
     {

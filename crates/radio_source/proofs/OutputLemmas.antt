@@ -1,4 +1,4 @@
--- What a body tells over all its feeds.
+-- What a body answers over all its feeds.
 use Rattle.std.proofs.Common.{◌≡◌, ℕ, zero, suc, Bool, true, false, not, ◌&&◌, ◌||◌, List, [], ◌∷◌, ◌++◌, ap, sym, ◌∙◌, refl, append_assoc, append-nil, Some}
 use Rattle.std.proofs.Common.{None, ⊎_elim}
 use Rattle.std.proofs.lemmas.Bool.{cases_Bool, false≢true}
@@ -64,7 +64,7 @@ ended_data Broken (b ∷ bytes) h = absurd (false≢true h)
 
 -- ---- one feed
 
--- what a body of this state has still to tell of some bytes
+-- what a body of this state has still to answer for some bytes
 abbrev rest_from : Bool → Place → Bool → List ℕ → List Output
 rest_from true place told bytes = []
 rest_from false place told bytes =
@@ -92,7 +92,7 @@ step_ended : (xs f : List Output) (told : Bool) → (xs ++ end_outputs (not told
 step_ended xs f true = append_assoc xs [] f
 step_ended xs f false = append_assoc xs (OutputEnd ∷ []) f
 
--- with no fault so far, what is told and what is left make all
+-- if there is no fault so far, what was answered and what is left make all
 step_on : (found : List ℕ) (place : Place) (told : Bool) (more : List ℕ) (ended : Bool) → has_ended place ≡ ended
     → (byte_outputs found ++ end_outputs (ended && not told)) ++ rest_from false place (told || ended) more
     ≡ byte_outputs (found ++ data_of place more) ++ (end_outputs (has_ended (after place more) && not told) ++ fault_outputs (fault_at (after place more)))
@@ -115,7 +115,7 @@ step_none blocks found place told more joined =
     ap (λ t. (byte_outputs t ++ end_outputs (has_ended place && not told)) ++ rest_from false place (told || has_ended place) more) joined
     ∙ step_on found place told more (has_ended place) refl
 
--- an answer where a fault stands, and what is left: the fault, if it was not the answer
+-- what is left after an answer at a fault: the fault, if that was not the answer
 abbrev left_of : BodyFault → Bool → List Output
 left_of fault true = []
 left_of fault false = OutputFault fault ∷ []
@@ -156,7 +156,7 @@ step_broken blocks found told more joined =
     ap (λ t. outputs_of a ++ t) (rest_broken (is_refusal a) (told || false) more)
     ∙ (step_fault blocks found false BadChunk refl joined ∙ rw (broken_data more, broken_stays more, append-nil found) refl)
 
--- what a feed tells at this place, and what is left, make all
+-- what a feed answers at this place, and what is left, make all
 step_at : (blocks : List (List ℕ)) (found : List ℕ) (place : Place) (told : Bool) (more : List ℕ) → concat blocks ≡ found
     → outputs_of (answer_with blocks (has_ended place && not told) (fault_at place))
     ++ rest_from (is_refusal (answer_with blocks (has_ended place && not told) (fault_at place))) place (told || has_ended place) more
@@ -197,7 +197,7 @@ step joined body piece more =
     ⊎_elim (λ (h : body.has_failed ≡ true). step_failed body piece more h) (λ (h : body.has_failed ≡ false). step_sound joined body piece more h)
     (cases_Bool body.has_failed)
 
--- a body whose empty feed tells all that is left: where a fault stands, the end is told
+-- a body whose empty feed answers all that is left; if it has a fault, the end was answered
 abbrev Settles : Feeding → Type 0
 Settles body = outputs_of (answer_to body []) ≡ rest_of body []
 

@@ -16,7 +16,7 @@ use Rattle.radio_source.proofs.ChunkLineLemmas.{whole_is_line, reads_whole, unli
 use Rattle.radio_source.proofs.PlaceLemmas.{after_line_unfinished, after_line_too_long, after_line_refused, after_last_line, after_chunk_line}
 use Rattle.radio_source.proofs.ChunkedLemmas.{IsLine, reads_nothing, stays_past, stays_broken}
 
--- ---- what the bytes from each place are, where they lead to the end
+-- ---- the bytes after each place, if they lead to the end
 
 pub record HasBody (bytes : List ℕ) : Type 0 where
   pub body : ChunkedBody

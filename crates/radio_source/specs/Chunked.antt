@@ -35,7 +35,7 @@ IsTrailer line = All (λ b. b ≢ line_feed) line × (line ≢ []) × (line ≢ 
 abbrev pub print_trailers : List (List ℕ) → List ℕ
 print_trailers lines = flat_map (λ line. line ++ line_feed ∷ []) lines
 
--- chunked-body = *chunk last-chunk trailer-section CRLF, where the last line may end in LF alone
+-- chunked-body = *chunk last-chunk trailer-section CRLF; the last line may end in LF alone
 pub record ChunkedBody : Type 0 where
   pub chunks : List Chunk
   pub last : ChunkLine

@@ -5,7 +5,7 @@ use Rattle.radio_source.specs.declared.fault.BodyFault.TheVariants.{Failed}
 use Rattle.radio_source.specs.Place.{Place, after, data_of, has_ended, fault_at}
 use Rattle.radio_blocks.specs.Cutting.{blocks_of}
 
--- a body between two feeds: where the bytes so far lead, and what its feeds have answered
+-- a body between two feeds: the place after the bytes so far, and what its feeds have answered
 pub record Feeding : Type 0 where
   pub place : Place
   -- a feed has answered that the body is complete

@@ -1,4 +1,4 @@
--- Where the bytes of a body lead: a place, byte for byte, and the data among them.
+-- The place in a body after its bytes, byte for byte, and the data among them.
 use Rattle.std.specs.Prelude.{ℕ, zero, suc, ◌-◌, List, [], ◌∷◌, ◌++◌, length, Bool, true, false, ◌==◌, nat_lt, if◌then◌else◌, Option, None, Some}
 use Rattle.httparse.specs.Ascii.{carriage_return, line_feed}
 use Rattle.radio_source.specs.declared.chunk_line.LineReading.{LineReading}
@@ -18,7 +18,7 @@ pub data Place : Type 0 where
   InChunk : ℕ → Place
   -- between the CR and the LF after a chunk's data
   AfterReturn : Place
-  -- where a trailer line or the empty line begins; trailer lines may have so many more bytes, with their LFs
+  -- before a trailer line or the empty line; trailer lines may have this many more bytes, with their LFs
   AtTrailer : ℕ → Place
   -- after a CR there
   AfterTrailerReturn : ℕ → Place
@@ -41,7 +41,7 @@ after_reading line Unfinished = if nat_lt (length line) 256 then InLine line els
 after_reading line (Whole size) = after_size size
 after_reading line Refused = Broken
 
--- where these bytes of a chunk line lead
+-- the place after these bytes of a chunk line
 unfoldable pub after_line : List ℕ → Place
 after_line line = after_reading line (chunk_line_in line)
 

@@ -5,7 +5,7 @@ use Rattle.radio_source.specs.declared.position.Stage.TheVariants.{Plain, Sized,
 use Rattle.radio_source.specs.declared.position.Stage.TheVariants.{BehindTheEnd, BadByte}
 use Rattle.radio_source.specs.Place.{Place, InPlain, InSized, InLine, InChunk, AfterReturn, AtTrailer, AfterTrailerReturn, InTrailer, AtEnd, PastTheEnd, Broken}
 
--- the place where this comes next, with so much of a chunk line
+-- the place at which the body expects this next, after so much of a chunk line
 abbrev pub place_at_stage : Stage → List ℕ → Place
 place_at_stage Plain line = InPlain
 place_at_stage (Sized left) line = InSized left

@@ -7,8 +7,8 @@ use thiserror::Error;
 /// Why a feed has no answer. After any of them the body answers `Failed` to each further feed.
 #[derive(Clone, Copy, Debug, PartialEq, Eq, Error)]
 pub enum BodyFault {
-    /// A byte came where no chunked body has it (RFC 9112, section 7.1), or a chunk line of 256 bytes has not ended, or
-    /// trailer lines pass 4096 bytes.
+    /// A byte came that no chunked body has there (RFC 9112, section 7.1), or a chunk line of 256 bytes has not
+    /// ended, or trailer lines pass 4096 bytes.
     #[error("bad chunk")]
     BadChunk,
     /// Bytes came after the body's end.

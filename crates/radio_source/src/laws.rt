@@ -41,7 +41,7 @@ pub fn plain_bodies()
     ensures place { (bytes : List ℕ) → after plain_start bytes ≡ plain_start }
 {}
 
-/// The data of a body of n bytes are its first n bytes. It has ended where n bytes have come, and a byte more is
+/// The data of a body of n bytes are its first n bytes. It has ended when n bytes have come, and one byte more is
 /// `PastEnd`.
 // rule: Sized body
 pub fn sized_bodies()
@@ -54,8 +54,8 @@ pub fn sized_bodies()
         → (has_ended (after (sized_start n) bytes) ≡ true) × (fault_at (after (sized_start n) bytes) ≡ Some PastEnd) }
 {}
 
-/// A chunk line is read as `httparse` states it: whole with its size if one is at the front, unfinished if none is but
-/// one may come, and refused if none can come any more.
+/// A chunk line is read as `httparse` states it. It is whole with its size if one is at the front, and unfinished if
+/// none is but one may come. It is refused if none can come any more.
 // rule: Chunk
 pub fn chunk_lines()
     ensures whole { (bytes : List ℕ) (size : ℕ) → chunk_line_in bytes ≡ Whole size

@@ -1,4 +1,4 @@
-//! Where the bytes of a body have led.
+//! The position in a body after its bytes so far.
 ghost use Rattle.std.specs.Prelude.{◌≡◌, ◌≢◌, ℕ, ◌<◌, ◌≤◌, List, ◌∷◌, [], ◌++◌, length, OnOk, IfOk};
 ghost use Rattle.arrayvec.specs.ArrayVec.{array_vec_len};
 ghost use Rattle.radio_source.specs.Place.{after_byte, after_line, in_trailer, after, data_of, has_ended, fault_at, plain_start, sized_start, chunked_start};
@@ -45,7 +45,7 @@ pub enum Stage {
     BadByte,
 }
 
-/// Where the bytes of a body have led: what comes next, and the bytes of a chunk line so far.
+/// The position in a body after its bytes so far: what comes next, and the bytes of an unfinished chunk line.
 #[derive(Drop)]
 pub struct Position {
     stage: Stage,

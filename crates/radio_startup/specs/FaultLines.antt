@@ -41,7 +41,7 @@ file_in (NotToml misreading) settings = settings
 file_in (Settings fault at) settings = settings
 file_in OutOfMemory settings = []
 
--- the line and the column of a fault, counted from 1; 0 where none is known
+-- the line and the column of a fault, counted from 1; each is 0 if it is not known
 abbrev pub place_in_file : FileFault → ℕ × ℕ
 place_in_file (CannotRead path error) = (0, 0)
 place_in_file (Line path line) = (line, 0)

@@ -23,7 +23,7 @@ AreAddresses holds None before after = after ≡ before
 AreAddresses holds (Some path) before after =
     (bytes : List ℕ) × (ranges : List AddressRange) × holds path bytes × (list_of bytes ≡ Ok ranges) × (after ≡ Some ranges)
 
--- `deny-ip` says who is denied, and `allow-ip` who alone is allowed
+-- `deny-ip` names the addresses that are denied, and `allow-ip` the only ones that are allowed
 abbrev pub ReadsAddresses : Holding → AddressLists → Lists → Lists → Type 0
 ReadsAddresses holds named before after =
     AreAddresses holds named.deny_ip before.denied after.denied × AreAddresses holds named.allow_ip before.allowed after.allowed

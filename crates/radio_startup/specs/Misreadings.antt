@@ -1,4 +1,4 @@
--- Where a text is not TOML.
+-- The place at which a text is not TOML.
 use Rattle.std.specs.Prelude.{◌≡◌, ℕ, List, take}
 use Rattle.std.specs.String.{string_bytes}
 use Rattle.radio_startup.specs.declared.fault.FileFault.{FileFault}

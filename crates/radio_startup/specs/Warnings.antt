@@ -51,7 +51,7 @@ unknown_key unknown = record {
   };
 }
 
--- the system allows fewer descriptors than so many clients want, and eight in addition to theirs; nothing is known if it does
+-- The system allows fewer descriptors than this many clients need, and eight in addition. Nothing is known if it does
 -- not say
 abbrev pub few_descriptors : ℕ → Option ℕ → Option Warning
 few_descriptors clients None = None

@@ -62,7 +62,7 @@ impl FileFault {
         }
     }
 
-    /// The line and the column of the fault, both counted from 1; 0 where none is known.
+    /// Returns the line and the column of the fault, both counted from 1. Each is 0 if it is not known.
     pub fn place(&self) -> (u64, u64)
         ensures { result ≡ place_in_file self.now }
     {
@@ -76,7 +76,7 @@ impl FileFault {
         }
     }
 
-    /// Where the settings have it, if it is a fault of a key; else all is empty.
+    /// Returns the place of the fault in the settings, if it is a fault of a key. Else all is empty.
     pub fn key(&self) -> FaultyKey<'_>
         ensures { result ≡ key_in self.now }
     {
@@ -100,7 +100,7 @@ impl FileFault {
         }
     }
 
-    /// The reason that the system, or the reader of TOML, gives; empty where none is known. `None` if memory is refused.
+    /// Returns the reason that the system, or the reader of TOML, gives. Empty if none is known. `None` if memory is refused.
     pub fn reason(&self, alloc: Global) -> Option<String>
         ensures { IfSome result (λ reason. IsReasonOfFile self.now (string_bytes reason)) }
     {

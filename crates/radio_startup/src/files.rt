@@ -32,7 +32,7 @@ pub struct Station {
     /// What the settings say of requests and answers.
     pub answers: AnswerSettings,
     pub lists: Lists,
-    /// Whose connections begin with a header that names their client, if such a list is named.
+    /// The proxies whose connections begin with a header that names their client, if such a list is named.
     pub proxies: Option<AddressList>,
 }
 
@@ -185,7 +185,7 @@ fn read_both<F: ReadsFiles>(
     }
 }
 
-/// What the list of proxies holds that these bytes name, where they are settings.
+/// Returns the list of proxies that these bytes name, if they are settings.
 fn proxies_of<F: ReadsFiles>(files: &F, bytes: &[u8]) -> Result<Option<AddressList>, FileFault>
     ensures { IfOk result (λ proxies. AreProxiesOf (F.holds files.now) bytes.now proxies) }
 {
@@ -195,7 +195,7 @@ fn proxies_of<F: ReadsFiles>(files: &F, bytes: &[u8]) -> Result<Option<AddressLi
     }
 }
 
-/// The path of the list of proxies that these bytes name, where they are settings.
+/// Returns the path of the list of proxies that these bytes name, if they are settings.
 fn proxies_path(alloc: Global, bytes: &[u8]) -> Result<Option<Text>, FileFault>
     ensures { IfOk result (IsPathOfProxies bytes.now) }
 {
@@ -218,14 +218,14 @@ fn settings_of(alloc: Global, bytes: &[u8]) -> Result<Settings, FileFault>
     }
 }
 
-/// Where bytes are not UTF-8, by this error of the library.
+/// Returns the fault at the first byte that is not UTF-8, by this error of the library.
 fn not_utf8(alloc: Global, bytes: &[u8], error: Utf8Error) -> FileFault
     ensures { IsMisreadAt bytes.now (valid_up_to error) (codes "not UTF-8") result }
 {
     misread(alloc, bytes, error.valid_up_to(), "not UTF-8")
 }
 
-/// What these bytes say of requests and answers, where they are settings.
+/// Returns what these bytes say of requests and answers, if they are settings.
 fn answers_of(alloc: Global, bytes: &[u8]) -> Result<AnswerSettings, FileFault>
     ensures { IfOk result (λ answers. answers_of_text bytes.now ≡ Some answers) }
 {
@@ -253,7 +253,7 @@ fn settings_in(alloc: Global, text: &str) -> Result<Settings, FileFault>
     }
 }
 
-/// Where and why a text that is not TOML is not.
+/// Returns the fault of a text that is not TOML: where it is not, and why.
 fn not_toml(alloc: Global, text: &str) -> FileFault
     ensures { IsNotToml result }
 {

@@ -4,7 +4,7 @@ use std::alloc::AllocGlobal;
 use std::fs;
 use std::fs::Files;
 
-/// Where the system says what it allows the process, a line for each limit (Linux, `proc(5)`).
+/// The file in which the system says what it allows the process, a line for each limit (Linux, `proc(5)`).
 const LIMITS: &str = "/proc/self/limits";
 
 /// Returns how much the system allows the process of what has this name. `None` if it does not say it, or if there is no limit.

@@ -1,4 +1,4 @@
-//! Where a text is not TOML.
+//! The place at which a text is not TOML.
 
 ghost use Rattle.std.specs.Prelude.{◌≡◌};
 ghost use Rattle.radio_startup.specs.Columns.{column_after, column_behind, line_after, line_behind};

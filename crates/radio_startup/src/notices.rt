@@ -23,7 +23,7 @@ pub const VERSION: &str = "0.9.0";
 /// The name of the limit of descriptors (Linux, `proc(5)`).
 const LINE_OF_DESCRIPTORS: &str = "Max open files";
 
-/// Where the lines of the log go that the program itself writes.
+/// Takes the log's lines that the program itself writes.
 pub trait Notices {
     /// Adds the line of a fact to the log. If memory is refused, there is none.
     fn add(&self, fact: Fact<'_>);

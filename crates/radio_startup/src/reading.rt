@@ -1,4 +1,4 @@
-//! Where the files of a station are read.
+//! Reading the files of a station.
 
 ghost use Rattle.std.specs.Prelude.{ℕ, List, IfErr, IfOk};
 ghost use Rattle.radio_startup.specs.Unread.{IsUnread};
@@ -9,7 +9,7 @@ use std::fs::Files;
 use std::io::ErrorKind;
 use std::{fs, io};
 
-/// Where the files of a station are read.
+/// Reads the files of a station.
 pub trait ReadsFiles {
     // a file of this path holds these bytes
     ghost holds: { Self → List ℕ → List ℕ → Type 0 };

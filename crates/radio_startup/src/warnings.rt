@@ -17,7 +17,7 @@ use std::alloc::Global;
 /// which reports sockets, and one for a file.
 const OTHER_DESCRIPTORS: u64 = 8;
 
-/// Returns a warning for each thing that an operator should know of these settings, and of keys of them that are passed over,
+/// Returns a warning for each doubtful setting that an operator should know of, and for keys that are ignored,
 /// in the order of their lines. `descriptors` is how many the system allows the process, if it says so.
 ///
 /// `OutOfMemory` if memory is refused.

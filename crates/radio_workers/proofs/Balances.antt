@@ -29,7 +29,7 @@ module _ {L : Type 0} where
   idle-append threads new bare h i transfers at none =
       ⊎_elim (λ there. h i transfers there none) (λ here. subst IsIdle here bare none) (at_snoc threads new transfers i at)
 
-  -- where nobody has a part, nobody has put or taken anything
+  -- if no thread has a part, no thread has put or taken anything
   total-idle : (f : Transfers L → ℕ) → ((transfers : Transfers L) → IsBare transfers → f transfers ≡ 0) → (threads : List (Transfers L))
       → IdleIsEmpty threads → sum_of part_count threads ≡ 0 → sum_of f threads ≡ 0
   total-idle f bare [] h none = refl
@@ -37,7 +37,7 @@ module _ {L : Type 0} where
       let first = bare transfers (h zero transfers refl (omega arith)) in
       omega (arith, total-idle f bare threads (λ i x at. h (suc i) x at) (omega arith))
 
-  -- where one has all parts, the total is its
+  -- if one thread has all parts, the total is that thread's
   total-alone : (f : Transfers L → ℕ) → ((transfers : Transfers L) → IsBare transfers → f transfers ≡ 0) → (threads : List (Transfers L)) (pass : ℕ) (transfers : Transfers L)
       → get_elem? threads pass ≡ some transfers → IdleIsEmpty threads → sum_of part_count threads ≡ transfers.parts → sum_of f threads ≡ f transfers
   total-alone f bare threads pass transfers at h all =
@@ -56,7 +56,7 @@ module _ {L : Type 0} where
         total-alone (taken_by weight) (λ x b. ap (weigh weight) b.1) threads pass transfers at h.2 (omega arith),
       )
 
-  -- one who has a part puts or takes, and what is left changes with it
+  -- a thread with a part puts or takes, and what is left changes with it
   steps : (left left' : List L) (threads : List (Transfers L)) (pass : ℕ) (transfers new : Transfers L) → IsBalanced left threads → get_elem? threads pass ≡ some transfers
       → 0 < transfers.parts → new.parts ≡ transfers.parts
       → ((weight : L → ℕ) → put_by weight new + taken_by weight transfers + weigh weight left ≡ put_by weight transfers + taken_by weight new + weigh weight left')
@@ -124,7 +124,7 @@ module _ {L : Type 0} where
         (idle-set threads pass (sum_of_transfers transfers transfers') (λ none. absurd (omega arith)) h.2),
   )
 
-  -- of who has all parts, how many it has put and taken says whether there was room
+  -- for the thread that has all parts, what it has put and taken says whether there was room
   pub room-known : (result : Result (Unit {0}) L) (room : ℕ) (transfers transfers' : Transfers L) (line : L) → room ≡ ROOM
       → MatchResult result (λ _. IsPut transfers line transfers') (λ x. (x ≡ line) × (transfers' ≡ transfers) × Held room (IsKnown transfers)) → transfers.parts ≡ all_parts
       → MatchResult result (λ _. length transfers.put < length transfers.taken + ROOM) (λ _. length transfers.put ≡ length transfers.taken + ROOM)

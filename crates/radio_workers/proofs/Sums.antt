@@ -10,7 +10,7 @@ module _ {L : Type 0} where
   weigh-append weight [] ys = omega arith
   weigh-append weight (x ∷ xs) ys = omega (arith, weigh-append weight xs ys)
 
-  -- where each line weighs 1
+  -- if each line weighs 1, the weight is the number of lines
   weigh-ones : (xs : List L) → weigh (λ _. 1) xs ≡ length xs
   weigh-ones [] = refl
   weigh-ones (x ∷ xs) = omega (arith, weigh-ones xs)

@@ -11,7 +11,7 @@ most_failed = 100
 abbrev pub pause : ℕ
 pause = 100
 
--- how many in a row could not be accepted, the first moment at which one is tried again, and whether it was for want of a descriptor
+-- How many accepts in a row failed, and the first moment of the next try. Then whether they failed for want of a descriptor.
 pub record Accepting : Type 0 where
   pub failed : ℕ
   pub not_before : ℕ

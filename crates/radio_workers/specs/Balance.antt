@@ -19,7 +19,7 @@ module _ {L : Type 0} where
   abbrev pub sum_of_transfers : Transfers L → Transfers L → Transfers L
   sum_of_transfers transfers other = record { parts = transfers.parts + other.parts; put = transfers.put ++ other.put; taken = transfers.taken ++ other.taken }
 
-  -- of who has all parts, what it has put and taken and what is left add up
+  -- for the thread that has all parts, what it has put and taken and what is left add up
   abbrev pub IsKnown : Transfers L → List L → Type 0
   IsKnown transfers left = transfers.parts ≡ all_parts → IsTakenOrLeft transfers.put transfers.taken left
 
@@ -31,7 +31,7 @@ module _ {L : Type 0} where
   abbrev pub IsTaken : Transfers L → L → Transfers L → Type 0
   IsTaken transfers line transfers' = transfers' ≡ record transfers { taken = transfers.taken ++ line ∷ [] }
 
-  -- who has no part has put and taken nothing
+  -- a thread without a part has put and taken nothing
   abbrev pub IdleIsEmpty : List (Transfers L) → Type 0
   IdleIsEmpty threads = (pass : ℕ) (transfers : Transfers L) → get_elem? threads pass ≡ some transfers → transfers.parts ≡ 0 → (transfers.put ≡ []) × (transfers.taken ≡ [])
 

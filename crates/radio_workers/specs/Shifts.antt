@@ -4,7 +4,7 @@ use Rattle.std.specs.List.{list_any, position}
 use Rattle.radio_connections.specs.Connections.{Connection, lingers, without_first}
 use Rattle.radio_serving.specs.Sources.{is_source_number, FeedingClients}
 
--- where the first connection stands whose client feeds a mount
+-- the index of the first connection whose client feeds a mount
 abbrev pub first_source : FeedingClients → List Connection → Option ℕ
 first_source feeding conns = position (λ conn. is_source_number conn.id feeding) conns
 
@@ -12,7 +12,7 @@ first_source feeding conns = position (λ conn. is_source_number conn.id feeding
 abbrev pub has_listeners : List Connection → Bool
 has_listeners conns = list_any (λ conn. conn.status.sits) conns
 
--- the first connection of a client who feeds went from the others behind those of sources; or none did
+-- the first source's connection went from the others to the end of the sources' connections, or there was none
 abbrev pub HasParted : Bool → FeedingClients → List Connection → List Connection → List Connection → List Connection → Type 0
 HasParted true feeding sources conns sources' conns' =
     (at : ℕ) × (conn : Connection) × (first_source feeding conns ≡ Some at) × (slice_get conns at ≡ Some conn)

@@ -2,7 +2,8 @@
 use Rattle.std.specs.Prelude.{◌≡◌, List, ◌++◌}
 use Rattle.radio_workers.specs.Passes.{PassRecord}
 
--- the pass is of the same intake, with the same parts; nothing was put through it, and what was taken through it stands behind what was before
+-- The pass is of the same intake, and has the same parts. Nothing was put through it. What was taken through it follows what was
+-- taken before.
 -- rule: Newcomers
 pub record HasTakenMore {L : Type 0} (before now : PassRecord L) : Type 0 where
   pub intake : now.intake ≡ before.intake

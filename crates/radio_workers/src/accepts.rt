@@ -91,7 +91,7 @@ impl Accepts {
         self.failed < MOST_FAILED
     }
 
-    /// A connection has closed: where no descriptor was left, there is one now.
+    /// Notes that a connection has closed. If no descriptor was left, there is one now.
     // rule: Failed accepts
     pub fn note_closed(&mut self)
         ensures { self.new ≡ closed_in self.old }

@@ -1,4 +1,4 @@
-//! Where connections come from.
+//! The entrance from which connections are accepted.
 
 ghost use Rattle.std.specs.Prelude.{◌≡◌, nat_le};
 ghost use Rattle.radio_workers.specs.Entrances.{IsTried, answer_of, settled};
@@ -18,7 +18,7 @@ pub enum AcceptResult<T: Drop> {
     NoDescriptor,
 }
 
-/// Where connections come from.
+/// Accepts connections.
 pub trait Entrance<T: Drop> {
     ghost use Rattle.radio_workers.specs.declared.entrance.AcceptResult.{AcceptResult};
 

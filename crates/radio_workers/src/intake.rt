@@ -73,7 +73,7 @@ impl<L> Intake<L> {
         ensures ok { OnOk result (pass.new ≡ record pass.old { put = pass.old.put ++ line ∷ [] }) }
         ensures back { IfErr result (λ refused. refused ≡ line) }
         ensures err { OnErr result (pass.new ≡ pass.old) }
-        // who has all parts gets it back exactly if [`ROOM`] are left
+        // the thread with all parts gets it back exactly if [`ROOM`] are left
         ensures room { pass.old.parts ≡ all_parts → MatchResult result (λ _. length pass.old.put < length pass.old.taken + ROOM) (λ _. length pass.old.put ≡ length pass.old.taken + ROOM) }
     {
         self.queue
@@ -86,7 +86,7 @@ impl<L> Intake<L> {
         requires own { pass.old.intake ≡ self.now }
         ensures some { IfSome result (λ line. pass.new ≡ record pass.old { taken = pass.old.taken ++ line ∷ [] }) }
         ensures none { IfNone result (pass.new ≡ pass.old) }
-        // for who has all parts, nothing is left then: what was put was taken
+        // for the thread with all parts nothing is left then: what was put was taken
         ensures empty { pass.old.parts ≡ all_parts → IfNone result (IsTakenOrLeft pass.old.put pass.old.taken []) }
     {
         self.queue.pop_as::<TakesOne, R>(rt, &mut pass.transfers)

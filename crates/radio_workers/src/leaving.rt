@@ -27,7 +27,7 @@ fn leave_if_here<S: Server, L: Line>(server: &mut S, conn: &Conn<L>)
 fn leave<S: Server>(server: &mut S, id: u64)
     ensures { AsksToLeave S.steps S.refuses server.old id server.new }
 {
-    // Where memory is refused for that, nothing has changed.
+    // If memory is refused for that, nothing has changed.
     if let Ok(reply) = server.apply(Event::Leave { id }) {
         drop(reply);
     }

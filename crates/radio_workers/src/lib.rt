@@ -3,9 +3,10 @@
 //! - [`run_workers`]: runs a worker for each slot, until all have stopped.
 //! - [`Workplace`]: what all workers share: the server, the intake from which they take connections, and the gate.
 //! - [`WorkerSlot`]: what one worker has: a pass of the server, one of the intake, and a turn source. [`add_slot`] makes one.
-//! - [`TurnSource`]: where a worker's turns come from, and who gets what came of them ([`TurnStart`], [`Seen`]).
-//! - [`Intake`]: the queue in which an acceptor puts connections for the workers, with room for [`ROOM`]; threads share it by
-//!   reference. [`IntakePass`]: what one thread has put and taken. [`Intake::split`] gives another thread one, and
+//! - [`TurnSource`]: when a worker's turns begin, and what the worker reports after each ([`TurnStart`], [`Seen`]).
+//! - [`Intake`]: the queue in which an acceptor puts connections for the workers, with room for [`ROOM`].
+//!   Threads share it by reference. [`IntakePass`]: what one thread has put and taken. [`Intake::split`]
+//!   gives another thread one, and
 //!   [`Intake::join`] takes it back. [`Intake::tally`]: when one pass has all parts again, all that was put was taken or is left.
 //! - [`accept_next`]: the next connection of an [`Entrance`]; [`Accepts`]: when one is accepted, and how many in a row could not
 //!   be.

@@ -46,7 +46,7 @@ impl<L> Join<Transfers<L>> for Together {
     ghost spent = { idle 0 };
 }
 
-/// A connection is put; who has all parts knows that there was room.
+/// A connection is put. The thread with all parts knows that there was room.
 pub(crate) struct PutsOne;
 
 impl<L> Outcome<L, Transfers<L>> for PutsOne {
@@ -64,7 +64,7 @@ impl<L> Outcome<L, Transfers<L>> for TakesOne {
     ghost then = { IsTaken };
 }
 
-/// Who has all parts knows what is left.
+/// The thread with all parts knows what is left.
 impl<L> Lesson<L, Transfers<L>> for PutsOne {
     ghost use Rattle.radio_workers.specs.Balance.{IsKnown};
 

@@ -169,7 +169,7 @@ impl<S: Server + Drop, L: Line> Shift<S, L> {
         }
     }
 
-    /// Does what it is called to: takes in those who wait, and makes the turn.
+    /// Does what it is called to: takes in waiting connections, and makes the turn.
     fn follow<R: Wait, A, T: Drop, P: TurnSource<T, L>, G: Gate>(
         &mut self,
         rt: &R,
@@ -187,7 +187,7 @@ impl<S: Server + Drop, L: Line> Shift<S, L> {
         self.make_turn(place.gate, turn_source, call);
     }
 
-    /// Takes in of those who wait as many as it is called to.
+    /// Takes in as many of the waiting connections as it is called to.
     #[tactic(auto, using(crate::proofs::Takings::taken_none, crate::proofs::Takings::taken_one, crate::proofs::Takings::taken_then, crate::proofs::Doings::done_none, crate::proofs::Doings::done_then))]
     fn take_in<R: Wait, T: Drop, P: TurnSource<T, L>>(
         &mut self,
@@ -313,7 +313,7 @@ impl<S: Server + Drop, L: Line> Shift<S, L> {
         }
     }
 
-    /// Moves the first of them that stands among the others. Returns whether there was one, and memory for it.
+    /// Moves the first source's connection that is among the others. Returns whether there was one, and memory for it.
     fn part_source(&mut self) -> bool
         ensures parted { HasParted result self.old.worker.server.feeding self.old.sources.items self.old.conns.items self.new.sources.items self.new.conns.items }
         ensures worker { self.new.worker ≡ self.old.worker }
@@ -329,7 +329,7 @@ impl<S: Server + Drop, L: Line> Shift<S, L> {
         true
     }
 
-    /// Closes the oldest of those who linger, if they are too many.
+    /// Closes the oldest lingering connection, if too many linger.
     fn close_oldest<T, P: TurnSource<T, L>>(&mut self, turn_source: &mut P)
         ensures does { WorkerHasDone S.steps S.refuses (shift_of self.old.worker self.old.sources.items self.old.conns.items)
             (shift_of self.new.worker self.new.sources.items self.new.conns.items) }
@@ -377,7 +377,7 @@ impl<S: Server + Drop, L: Line> Shift<S, L> {
     }
 }
 
-/// Returns where the first of them stands whose client feeds a mount.
+/// Returns the index of the first connection whose client feeds a mount.
 fn first_source<S: Server + Drop, L: Line>(server: &Watched<S>, conns: &[Conn<L>]) -> Option<usize>
     ensures { result ≡ first_source server.now.feeding conns.now }
 {

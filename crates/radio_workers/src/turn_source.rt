@@ -1,4 +1,4 @@
-//! Where a worker's turns come from.
+//! The source of a worker's turns and lines.
 
 ghost use Rattle.std.specs.Prelude.{◌≡◌, ◌≤◌, true, [], IfSome};
 
@@ -18,10 +18,10 @@ pub struct TurnStart {
 /// What a worker reports after a turn.
 #[derive(Clone, Copy)]
 pub struct Seen {
-    /// Whether listeners may have news by what was done in this turn, whichever worker serves them, beside what sources have
+    /// Whether this turn may have brought news to listeners of any worker, in addition to what sources have
     /// brought.
     pub news: bool,
-    /// Whether somebody has drawn all that it had room for, so that there may be more for it.
+    /// Whether a listener has drawn all that it had room for, so that there may be more for it.
     pub more: bool,
     /// How many connections the worker has.
     pub connections: usize,
@@ -35,7 +35,7 @@ pub struct Seen {
     pub clock_ms: u64,
 }
 
-/// Where a worker's turns and lines come from: of connections, that wait as `T`, each becomes an `L`.
+/// Decides when a worker's turns begin, and opens its lines: each connection waits as a `T`, and becomes an `L`.
 pub trait TurnSource<T, L: Line>: Drop {
     /// Waits until there is something to do. Returns what the next turn begins with; `None` if the worker is to stop. It gives the log
     /// the moment.

@@ -11,15 +11,15 @@ use radio_serving::{Gate, WebAnswers};
 pub struct Workplace<'a, S, T, G: Gate> {
     /// The server that they ask.
     pub server: &'a S,
-    /// Where they take connections from.
+    /// The queue from which they take connections.
     pub intake: &'a Intake<T>,
     /// What marks the beginning and the end of each write.
     pub gate: &'a G,
     /// What the settings say of answers.
     pub web: WebAnswers,
-    /// Whether the log has lines of clients who were only shown something of the station.
+    /// Whether the log has lines of clients that were only shown something of the station.
     pub log_polls: bool,
-    /// For how many seconds a line is kept that takes nothing of what it is owed.
+    /// For how many seconds a line is kept that takes nothing of what is pending for it.
     pub patience_s: u32,
     /// How many turns each makes at most.
     pub turns: u64,
@@ -32,12 +32,12 @@ pub struct WorkerSlot<A: Drop, T: Drop, P: Drop> {
     pub pass: Option<A>,
     /// A pass of the intake.
     pub intake_pass: IntakePass<T>,
-    /// Where its turns come from.
+    /// Decides when its turns begin.
     pub turn_source: P,
 }
 
-/// Adds a slot with this pass of the server, this turn source, and one part of the intake from those of `intake_pass`. `OutOfMemory` where
-/// memory was refused: no part was taken then, and the slots are as they were.
+/// Adds a slot with this pass of the server, this turn source, and one part of the intake from those of `intake_pass`.
+/// `OutOfMemory` if memory was refused. Then no part was taken, and the slots are unchanged.
 pub fn add_slot<A: Drop, T: Drop, P: Drop>(
     slots: &mut Vec<WorkerSlot<A, T, P>>,
     intake: &Intake<T>,

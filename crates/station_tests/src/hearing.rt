@@ -8,13 +8,13 @@ use radio_locks::OutOfMemory;
 use std::alloc::Global;
 use std::sync::Wait;
 
-/// How many listeners are to have heard something, so that it shows anything.
+/// How many listeners must get something, so that the test shows anything.
 const LEAST_HEARING: usize = 3;
 
-/// What is answered to who asks for a mount that nobody feeds.
+/// The answer to a client that asks for a mount that nobody feeds.
 const ANSWER: &[u8] = b"denied: no-mount\n";
 
-/// Returns whether what was done for each connection is as its line gave and took, and enough listeners have heard something.
+/// Returns whether what was done for each connection is as its line gave and took, and enough listeners have got something.
 pub fn is_all_as_it_came<R: Wait>(
     rt: &R,
     alloc: Global,

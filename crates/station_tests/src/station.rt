@@ -36,7 +36,7 @@ const SETTINGS: &str =
 /// How many turns each worker makes, a millisecond each.
 const TURNS: u64 = 300;
 
-/// Where a worker's turns come from: one in each millisecond, before which it takes one connection.
+/// Decides when a worker's turns begin: one in each millisecond, before which it takes one connection.
 #[derive(Drop)]
 struct DicedTurns<'a, R: Wait + Clock> {
     rt: &'a R,
@@ -297,7 +297,7 @@ fn goes<R: Threads + Wait + Clock + Sync>(
     }
 }
 
-/// Returns whether a station of this seed hears what came.
+/// Returns whether listeners at a station of this seed get what came.
 fn hears<R: AllocGlobal + Threads + Wait + Clock + Sync>(rt: &R, seed: u64) -> bool {
     match goes(rt, rt.alloc(), seed) {
         Ok(hears) => hears,

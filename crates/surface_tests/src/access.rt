@@ -22,7 +22,7 @@ pub fn pair_of(alloc: Global, value: &[u8]) -> Option<Pair> {
     }
 }
 
-/// Whether the mount is open to who sends this value.
+/// Returns whether the mount is open to a client that sends this value.
 fn opens(alloc: Global, lists: &Lists, mount: &MountName, value: &[u8]) -> bool {
     let pair = pair_of(alloc, value);
     lists.lets_in(mount, pair.as_ref())

@@ -7,7 +7,7 @@
 //! - `heads`: heads of both sides. `streams`: blocks, and titles between bytes. `listings`: listings, and commands of targets.
 //! - `relays`: what relays send and pull in, and which run.
 //! - `access`: lists of users and of addresses. `rules`: what the policy says.
-//! - `seats`: who sits where. `walks`: where a walk lands, and whom a move carries.
+//! - `seats`: the listeners' seats. `walks`: where a walk lands, and which listeners a move carries.
 //! - `sessions`: bytes as events, and replies as bytes. `plays`: scripts, over devices that fail.
 //! - `stations`: a core, a book and a hall, with the same calls. `settling`: passes compared with entries, and each fault.
 //! - `intakes`: connections that wait. `loopback`: a worker's turns over sockets. `workers`: workers in threads.

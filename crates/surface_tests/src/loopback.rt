@@ -201,7 +201,7 @@ fn are_served<C: Clock>(clock: &C, alloc: Global, listener: &TcpListener) -> boo
     }
 }
 
-/// Reads what comes next, as many bytes as are wanted. Whether it is that.
+/// Reads as many of the next bytes as are wanted. Returns whether they are these.
 fn comes(stream: &mut TcpStream, want: &[u8]) -> bool {
     let mut buffer = [0; 128];
     let count = want.len().min(buffer.len());

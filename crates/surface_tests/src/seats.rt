@@ -1,4 +1,4 @@
-//! Who sits where.
+//! The listeners' seats.
 
 ghost use Rattle.std.specs.Prelude.{◌≡◌, IfOk};
 
@@ -16,7 +16,7 @@ const ANN: &[u8] = b"Basic YW5uOmFiYw==";
 /// What the user `anna` sends, whose name begins with the other's.
 const ANNA: &[u8] = b"Basic YW5uYTphYmM=";
 
-/// A seat at the mount, of a listener who asked for it and sent this, at the place 4 of session 1.
+/// A seat at the mount, of a listener that asked for it and sent this, at the place 4 of session 1.
 fn seat_at(alloc: Global, mount: &MountName, sent: &[u8]) -> Result<Seat, OutOfMemory>
     ensures { IfOk result (λ seat. seat.mount ≡ mount.now) }
 {
@@ -42,7 +42,7 @@ pub fn come(
     come_as(alloc, seats, mount, id, ANN)
 }
 
-/// The client of this number, who sent this, sits at the mount from now on. Nothing changes if memory is refused.
+/// The client of this number, which sent this, sits at the mount from now on. Nothing changes if memory is refused.
 fn come_as(
     alloc: Global,
     seats: &mut Seats,
@@ -78,14 +78,14 @@ pub fn has_lost(seats: &Seats, id: u64, rule: Rule) -> bool {
     }
 }
 
-/// Who has come sits there, and is counted.
+/// A listener that has come sits there, and is counted.
 fn are_there(seats: &Seats, one: &MountName, other: &MountName) -> bool {
     let is_counted = seats.count(one) == 2 && seats.count(other) == 1;
     let has_user = seats.user_at(one, b"ann") && !seats.user_at(one, b"bob");
     is_counted && has_user && sits_at(seats, 3, one, 1, 4) && sits_at(seats, 4, other, 1, 4)
 }
 
-/// Who loses its seat is not counted, and is forgotten in the end.
+/// A listener that loses its seat is not counted, and is forgotten in the end.
 fn loses_seat(seats: &mut Seats, one: &MountName) -> bool {
     seats.end(3, Rule::Killed);
     let has_lost = has_lost(seats, 3, Rule::Killed) && seats.count(one) == 0;
@@ -93,7 +93,7 @@ fn loses_seat(seats: &mut Seats, one: &MountName) -> bool {
     has_lost && seats.standing(3).is_none()
 }
 
-/// Three come, of whom one moves and another loses its seat. Whether all are where they should be.
+/// Three listeners come; one of them moves, and another loses its seat. Returns whether each is where it should be.
 fn are_seated(alloc: Global, one: &MountName, other: &MountName) -> Result<bool, OutOfMemory> {
     let mut seats = Seats::new(alloc);
     come(alloc, &mut seats, one, 3)?;
@@ -133,7 +133,7 @@ fn are_users_apart(alloc: Global, one: &MountName, other: &MountName) -> Result<
     Ok(are_apart && are_both && has_lost && has_left)
 }
 
-/// Who sits at the mount, by its numbers.
+/// Returns the numbers of the listeners that sit at the mount.
 fn are_listed(alloc: Global, mount: &MountName) -> Result<bool, OutOfMemory> {
     let mut seats = Seats::new(alloc);
     come(alloc, &mut seats, mount, 9)?;

@@ -57,7 +57,7 @@ fn bytes_and_replies(rt: HostRuntime) {
     assert!(rt; is_given(rt.alloc()) == Ok(true));
 }
 
-/// A server that knows no mount, and counts who asks for one and who leaves.
+/// A server without mounts, which counts the clients that ask for one and those that leave.
 #[derive(Drop)]
 struct NoMounts {
     asked: u32,

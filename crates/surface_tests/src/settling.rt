@@ -108,8 +108,8 @@ fn takes_pass<H: Origin>(book: &mut Book<Kept, H>, passes: &mut Vec<Pass<Kept, H
 fn applies<H: Origin>(book: &mut Book<Kept, H>, pass: &mut Pass<Kept, H>, event: Event) -> bool {
     let mut none = [];
     match book.apply(pass, &mut none, event) {
-        Ok(receipt) => {
-            drop(receipt);
+        Ok(reply) => {
+            drop(reply);
             true
         }
         Err(_) => false,
@@ -147,7 +147,7 @@ fn are_receipts(receipts: &[Receipt]) -> bool {
     }
 }
 
-/// Whether the fault is found, or none, where a history of all calls is.
+/// Returns whether the wanted fault is found, or, if none is wanted, a history of all calls.
 fn is_found(settled: Result<Vec<Entry>, SettleFault>, want: Option<SettleFault>) -> bool {
     match settled {
         Ok(history) => want.is_none() && history.len() == CALLS,
@@ -174,7 +174,7 @@ fn finds<H: Origin>(
     }
 }
 
-/// Whether that is found, where a core of these settings steps through the lists.
+/// Returns whether that is found if a core of these settings steps through the lists.
 fn settles<H: Origin>(
     alloc: Global,
     settings: Settings,

@@ -162,7 +162,7 @@ struct OfBook<'a, H: Origin> {
 impl<'a, H: Origin> Asked for OfBook<'a, H> {
     fn applies(&mut self, event: Event, want: Want) -> Result<bool, OutOfMemory> {
         match self.book.apply(self.pass, self.lent.as_mut_slice(), event) {
-            Ok(receipt) => Ok(want.takes(receipt.into_reply())),
+            Ok(reply) => Ok(want.takes(reply)),
             Err(refused) => Err(refused),
         }
     }

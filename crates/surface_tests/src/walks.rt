@@ -1,4 +1,4 @@
-//! Where a walk lands, and whom a move carries along.
+//! The mount at which a walk lands, and the listeners that a move carries along.
 
 use crate::seats::{come, has_lost, sits_at};
 use radio_core::MountParts;
@@ -10,7 +10,7 @@ use radio_seats::{OutOfMemory, Seats};
 use radio_settings::MountName;
 use std::alloc::{AllocGlobal, Global};
 
-/// A server with one live mount, where one may sit, and to which all others fall back.
+/// A server with one live mount, which has room for one listener, and to which all other mounts fall back.
 #[derive(Drop)]
 struct OneLive {
     live: MountName,
@@ -96,7 +96,7 @@ fn are_walked(alloc: Global, view: &OneLive, other: &MountName) -> Result<bool, 
     Ok(lands && stops_by(view, &seats, &view.live, Rule::MountFull))
 }
 
-/// The session of the other mount ends, where the clients 3 and 4 sit. Whether the first of them goes on at the live mount,
+/// The session of the other mount ends, where the clients 3 and 4 sit. Returns whether the first goes on at the live mount,
 /// which is full for the second.
 fn are_carried(alloc: Global, view: &OneLive, other: &MountName) -> Result<bool, OutOfMemory> {
     let mut parts = MountParts::new(alloc);

@@ -1,4 +1,4 @@
-//! Workers in threads, over a server that lets nobody in.
+//! Workers in threads, over a server that admits no client.
 
 ghost use Rattle.std.specs.Prelude.{◌≡◌, ◌<◌, All};
 ghost use Rattle.radio_hall.specs.Words.{all_parts};
@@ -16,7 +16,7 @@ use std::alloc::{AllocGlobal, Global};
 use std::sync::Wait;
 use std::thread::Threads;
 
-/// A server that lets nobody in.
+/// A server that admits no client.
 #[derive(Drop)]
 struct Closed {
     alloc: Global,

@@ -1,4 +1,4 @@
-//! A caller who feeds a mount and listens to it: 100 calls. Read [`serve`] first.
+//! A caller that feeds a mount and listens to it: 100 calls. Read [`serve`] first.
 
 use crate::callee::Callee;
 use crate::events::{

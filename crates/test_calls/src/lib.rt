@@ -3,7 +3,7 @@
 //! - `events`: events as tests write them.
 //! - `servers`: settings with two passwords, and a core of them.
 //! - [`Callee`]: what is called with events; a core's reply to a copy of one.
-//! - `hundred`: [`serve`], 100 calls of a caller who feeds a mount and listens to it.
+//! - `hundred`: [`serve`], 100 calls of a caller that feeds a mount and listens to it.
 //! - `scattering`: [`scatter`], calls as dice have them.
 #![tactic(auto)]
 

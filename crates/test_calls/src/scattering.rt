@@ -55,7 +55,7 @@ enum Stage {
     There,
     /// It has asked to feed a mount.
     Feeding,
-    /// It has asked to hear one.
+    /// It has asked to listen to one.
     Hearing,
     /// It is a relay.
     Relaying,
@@ -70,7 +70,7 @@ struct Actor {
     stage: Stage,
 }
 
-/// Nobody has come yet.
+/// No client has come yet.
 const NOBODY: Actor = Actor {
     id: 0,
     stage: Stage::Away,
@@ -100,7 +100,7 @@ enum Act {
     /// It is shown all mounts.
     ListsAll,
     Ends,
-    /// It is told that it is this moment.
+    /// The clock shows this moment.
     Waits(u64),
     Leaves,
 }
@@ -212,7 +212,7 @@ fn setting_fallback(from: &str, to: &str) -> Asked {
     }
 }
 
-/// The question who sits at the mount of this path.
+/// The question which listeners sit at the mount of this path.
 fn listing(path: &str) -> Asked {
     match MountName::read(path.as_bytes()) {
         Some(mount) => Asked::Listing(Listing::Clients(mount)),
@@ -220,7 +220,7 @@ fn listing(path: &str) -> Asked {
     }
 }
 
-/// The actor after it has done so; whoever came has this number.
+/// Returns the actor after it has done so. A newcomer has this number.
 fn actor_after(actor: Actor, act: Act, number: u64) -> Actor {
     match act {
         Act::Comes => Actor {

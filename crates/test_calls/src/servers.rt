@@ -18,7 +18,7 @@ pub fn settings(alloc: Global, more: &str) -> Result<Settings, SettingsFault> {
     read_settings(alloc, text.as_str())
 }
 
-/// Returns a core of these settings, with nobody in it.
+/// Returns a core of these settings, without clients.
 pub fn core(alloc: Global, more: &str) -> Result<Core, SettingsFault> {
     let settings = settings(alloc, more)?;
     Ok(Core::new(alloc, settings, Lists::new(alloc)))

@@ -43,7 +43,8 @@ pub struct Beside {
 }
 
 impl Beside {
-    /// Plays all of that at the station, with one of these manners as the one who fails. Returns whether it could be played.
+    /// Plays all of that at the station, with one of these manners for the failing connection. Returns whether it could be
+    /// played.
     pub fn is_played<S: Server + Drop>(&self, station: &mut Station<S>, manners: Manners) -> bool {
         station.plays(self.before)
             && station.comes(manners, self.comes_at_ms)
@@ -54,8 +55,8 @@ impl Beside {
 /// A source is served.
 pub const SERVED_SOURCE: &[Step] = &[Step::Comes(SOURCE, 0), Step::Turns(1, 1, 2)];
 
-/// A source, a listener who fails, and another listener. The other one hears all, the source is where
-/// it was, and the failing one was handed a front of it, and is gone.
+/// A source, a listener that fails, and another listener. The other one gets all, and the source is unchanged. The
+/// failing listener took a front of the bytes, and is gone.
 pub const PLAIN: &Beside = &Beside {
     settings: "",
     before: SERVED_SOURCE,
@@ -87,7 +88,7 @@ pub const BEHIND_A_SOURCE: &Beside = &Beside {
     ],
 };
 
-/// Somebody comes. Returns whether it was taken in, or memory was refused and the others are as they were.
+/// A connection comes. Returns whether it was taken in, or memory was refused and the others are unchanged.
 fn comes<S: Server + Drop>(station: &mut Station<S>, manners: Manners, ms: u64) -> bool {
     let before = station.count();
     let came = station.comes(manners, ms);

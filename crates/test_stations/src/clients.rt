@@ -24,17 +24,17 @@ pub const LISTENER: Manners = Manners {
     ..SILENT
 };
 
-/// A listener who asks once the source is on the air.
+/// A listener that asks once the source is on the air.
 pub const LATE_LISTENER: Manners = Manners {
     gives: &[b"", b"", b"", LISTEN_HEAD],
     ..SILENT
 };
 
-/// What it hears.
+/// What it gets.
 pub const HEARD: &[u8] =
     b"HTTP/1.0 200 OK\r\nContent-Type: audio/mpeg\r\nConnection: close\r\n\r\nabcdefgh";
 
-/// A listener who asks for metadata.
+/// A listener that asks for metadata.
 pub const TITLED: Manners = Manners {
     gives: &[b"GET /a HTTP/1.0\r\nIcy-MetaData: 1\r\n\r\n"],
     ..SILENT

@@ -21,7 +21,7 @@ const STALLED: Manners = Manners {
 };
 
 /// A turn less than the source timeout after the three bytes: the line is still there, and another
-/// listener, whose line takes all, heard all.
+/// listener, whose line takes all, got all.
 pub const KEPT: &[Step] = &[
     Step::Comes(SOURCE, 0),
     Step::Turns(1, 1, 2),
@@ -44,7 +44,7 @@ pub const CLOSED: &[Step] = &[
     Step::Shows(1, Look::Took(HEARD)),
 ];
 
-/// A source whose last three blocks come when its listeners have heard the first.
+/// A source whose last three blocks come when its listeners have got the first.
 const THREE_MORE: Manners = Manners {
     gives: &[SOURCE_HEAD, b"abcd", b"", b"efgh", b"ijkl", b"mnop"],
     ..SILENT
@@ -57,16 +57,16 @@ pub const STALLED_FOR_FOUR: Manners = Manners {
     ..LISTENER
 };
 
-/// What a listener hears of one block.
+/// What a listener gets of one block.
 pub const ONE_BLOCK: &[u8] =
     b"HTTP/1.0 200 OK\r\nContent-Type: audio/mpeg\r\nConnection: close\r\n\r\nabcd";
 
-/// What it hears of four.
+/// What it gets of four.
 const FOUR_BLOCKS: &[u8] =
     b"HTTP/1.0 200 OK\r\nContent-Type: audio/mpeg\r\nConnection: close\r\n\r\nabcdefghijklmnop";
 
-/// One who is three blocks behind was finished by the push of the third: it hears what it was owed
-/// before, and nothing more; another hears all meanwhile.
+/// The push of the third block finishes a listener that is three blocks behind. It gets what was pending for it
+/// before, and nothing more. Another listener gets all meanwhile.
 pub const LAGS: &[Step] = &[
     Step::Comes(THREE_MORE, 0),
     Step::Turns(1, 1, 2),

@@ -99,7 +99,7 @@ fn ninety_nine_failures_do_not(rt: HostRuntime) {
     );
 }
 
-/// Where no descriptor is left nothing ends, however long it lasts; a connection that closes is
+/// If no descriptor is left nothing ends, however long that lasts. A connection that closes is
 /// followed by a try at once.
 // rule: Failed accepts
 #[test]

@@ -50,7 +50,7 @@ fn are_served_at_each_call(alloc: Global, beside: &Beside, failure: Failure) -> 
     true
 }
 
-/// Whose line fails, and how.
+/// The failing connections, and how they fail.
 const FAILURES: &[(&Beside, Failure)] = &[
     (PLAIN, Failure::Fault),
     (WITH_TITLE, Failure::Fault),
@@ -60,7 +60,7 @@ const FAILURES: &[(&Beside, Failure)] = &[
     (BEHIND_A_SOURCE, Failure::Closing),
 ];
 
-/// Whether the others are served whoever fails, and how.
+/// Returns whether the others are served, whichever connection fails, and in whichever way.
 fn are_served_at_each_failure(alloc: Global) -> bool {
     for (beside, failure) in FAILURES {
         if !are_served_at_each_call(alloc, beside, *failure) {
@@ -122,7 +122,7 @@ fn a_full_station(rt: HostRuntime) {
     assert!(rt; are_played(rt.alloc(), "[limits]\nclients = 1\n", FULL));
 }
 
-/// Who wants to hear what is not there, and sends more.
+/// A client that asks for a mount that does not exist, and sends more.
 const ASKS_FOR_NO_MOUNT: Manners = Manners {
     gives: &[b"GET /z HTTP/1.0\r\n\r\n", b"and more"],
     ..SILENT

@@ -1,7 +1,7 @@
 //! Tests of a worker's turn over lines in memory, as its callers see it: what no clause says. What clients do to a running station is in
 //! `tests/live/serve`.
 //!
-//! - `rows`: sources and listeners who are served, turn after turn.
+//! - `rows`: sources and listeners that are served, turn after turn.
 //! - `slow`: lines that take little or nothing.
 //! - `moments`: from when patience and lingering count, to the millisecond.
 //! - `faults`: lines that fail, at each call; and memory that is refused.

@@ -179,7 +179,7 @@ fn pulls_over_a_line(rt: HostRuntime) {
     }
 }
 
-/// Whether a listener hears what a relay has pulled in.
+/// Returns whether a listener gets what a relay has pulled in.
 fn is_heard(alloc: Global) -> bool {
     match pulled(alloc) {
         Some(core) => hears(Station::new(alloc, core)),
@@ -204,7 +204,7 @@ fn pulled_by(alloc: Global, pull: &mut MountPull<MemoryLine>) -> Option<Core> {
     None
 }
 
-/// Whether a listener hears it there.
+/// Returns whether a listener of this station gets it.
 fn hears(mut station: Station<Core>) -> bool {
     let hears = is_heard_at(&mut station);
     drop(station);
@@ -305,7 +305,7 @@ fn lists_of_masters(rt: HostRuntime) {
     }
 }
 
-/// A master who sends its list in pieces.
+/// A master that sends its list in pieces.
 const LISTED: Manners = Manners {
     gives: &[b"HTTP/1.0 200 OK\r\n", b"\r\n/a", b"", b"\n/c\n"],
     closes_at: 4,

@@ -33,8 +33,8 @@ const STALLED_LATE: Manners = Manners {
     ..LISTENER
 };
 
-/// To whom nothing was owed for half a minute, the patience counts from when something is: a
-/// millisecond before it is over it is there.
+/// If nothing was pending for a listener for half a minute, the patience counts from when something is. The listener
+/// is still there a millisecond before its patience is over.
 const OWED_NOTHING: &[Step] = &[
     Step::Comes(SECOND_BLOCK_LATE, 0),
     Step::Turns(1, 1, 2),
@@ -67,7 +67,7 @@ fn patience_ends_then(rt: HostRuntime) {
     assert!(rt; are_played(rt.alloc(), LONG_TIMEOUT, OWED_FOR_TEN_SECONDS));
 }
 
-/// Who asks for what is not there, and sends more.
+/// A client that asks for a mount that does not exist, and sends more.
 const DENIED: Manners = Manners {
     gives: &[b"GET /z HTTP/1.0\r\n\r\n", b"and more"],
     ..SILENT
@@ -113,8 +113,8 @@ fn one_lingers_until_his_peer_closes(rt: HostRuntime) {
     assert!(rt; are_played(rt.alloc(), "", CLOSES));
 }
 
-/// Who has no seat is asked for half a second after it was asked for the last time, and not before: it
-/// hears then that it was finished, and is closed a turn later.
+/// A client without a seat is asked for half a second after the worker last asked for it, and not before. It
+/// learns then that it was finished, and is closed a turn later.
 const ASKED_FOR: &[Step] = &[
     Step::Comes(SILENT, 0),
     Step::Quiet(2600, 1, 1),

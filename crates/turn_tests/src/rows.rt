@@ -1,4 +1,4 @@
-//! Sources and listeners who are served, turn after turn.
+//! Sources and listeners that are served, turn after turn.
 
 use test_stations::{
     HEARD, INTERVAL, LISTENER, Look, Manners, SILENT, SOURCE, SOURCE_ANSWER, Step, TITLED,

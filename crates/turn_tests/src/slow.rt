@@ -1,4 +1,4 @@
-//! Lines that take little or nothing, and clients who say nothing.
+//! Lines that take little or nothing, and clients that say nothing.
 
 use test_calls::SHORT_QUEUE;
 use test_stations::{
@@ -34,17 +34,17 @@ fn a_stalled_line_is_closed_then(rt: HostRuntime) {
     assert!(rt; are_played(rt.alloc(), "", CLOSED));
 }
 
-/// Sources whose last blocks come when their listeners have heard the first.
+/// Sources whose last blocks come when their listeners have got the first.
 const TWO_MORE: Manners = Manners {
     gives: &[SOURCE_HEAD, b"abcd", b"", b"efgh", b"ijkl"],
     ..SILENT
 };
 
-/// What listeners hear of these bytes.
+/// What a listener gets of these bytes.
 const THREE_BLOCKS: &[u8] =
     b"HTTP/1.0 200 OK\r\nContent-Type: audio/mpeg\r\nConnection: close\r\n\r\nabcdefghijkl";
 
-/// One who is two blocks behind hears them once its line takes again; another hears all meanwhile.
+/// A listener that is two blocks behind gets them once its line takes again. Another gets all meanwhile.
 const FALLS_BEHIND: &[Step] = &[
     Step::Comes(TWO_MORE, 0),
     Step::Turns(1, 1, 2),
@@ -64,7 +64,7 @@ fn a_stalled_listener_falls_behind(rt: HostRuntime) {
     assert!(rt; are_played(rt.alloc(), SHORT_QUEUE, FALLS_BEHIND));
 }
 
-/// It hears them in a turn without news too, since there was news while its line took nothing.
+/// The listener gets them in a turn without news too, since there was news while its line took nothing.
 const CATCHES_UP: &[Step] = &[
     Step::Comes(TWO_MORE, 0),
     Step::Turns(1, 1, 2),
@@ -81,7 +81,7 @@ fn a_stalled_listener_catches_up(rt: HostRuntime) {
     assert!(rt; are_played(rt.alloc(), SHORT_QUEUE, CATCHES_UP));
 }
 
-/// Who is seated draws at once, and what is wanted of its line is told to it; then it draws nothing
+/// A seated listener draws at once, and its line learns what is wanted of it. Then it draws nothing
 /// without news, up to half a second after its last draw.
 const WITHOUT_NEWS: &[Step] = &[
     Step::Comes(TWO_MORE, 0),
@@ -145,7 +145,7 @@ fn a_silent_source_hears_of_its_end(rt: HostRuntime) {
 
 const SHORT_TIMEOUT: &str = "[limits]\nheader-timeout = 3\n";
 
-/// One who says nothing is there before the header timeout.
+/// A client that says nothing is still there before the header timeout.
 const SAYS_NOTHING: &[Step] = &[
     Step::Comes(SILENT, 0),
     Step::Turns(0, 500, 6),

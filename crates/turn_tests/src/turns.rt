@@ -1,4 +1,4 @@
-//! Whose turn it is among relays that wait for a place.
+//! The turns of relays that wait for a place.
 
 use radio_masters::{WaitingRelay, in_turn};
 use std::alloc::{AllocError, Global};

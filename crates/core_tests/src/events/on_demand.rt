@@ -1,9 +1,9 @@
-//! Mounts that relays feed on demand: who sits there, and which are wanted.
+//! Mounts that relays feed on demand: which listeners sit there, and which mounts are wanted.
 
 use super::words::*;
 
-/// A listener waits where a relay feeds on demand, hears it from its start, and waits again; then a
-/// source that is no relay.
+/// A listener waits at a mount that a relay feeds on demand, hears the relay from its start, and waits again. Then a
+/// source feeds the mount that is no relay.
 const WAITS: &[(Call, &str)] = &[
     (Call::Arrive, "arrived 1"),
     (Call::Listen(1, "/d"), "seated audio/mpeg,,"),
@@ -23,7 +23,7 @@ const WAITS: &[(Call, &str)] = &[
     (Call::Listen(4, "/d"), "seated audio/aac,Night,"),
 ];
 
-/// Where nobody feeds, commands find no mount, and listings none.
+/// At a mount that nobody feeds, commands find no mount, and listings none.
 const IDLE: &[(Call, &str)] = &[
     (Call::Arrive, "arrived 1"),
     (Call::Listen(1, "/d"), "seated audio/mpeg,,"),
@@ -39,7 +39,7 @@ const IDLE: &[(Call, &str)] = &[
     (Call::Draw(1, 9), "drawn "),
 ];
 
-/// Listeners where relays feed on demand, and one where none does.
+/// Listeners at mounts that relays feed on demand, and one at a mount that no relay feeds.
 const TWO_WAIT: &[(Call, &str)] = &[
     (Call::Arrive, "arrived 1"),
     (Call::Source(1, "/a"), "feeding"),

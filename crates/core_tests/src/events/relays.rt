@@ -92,7 +92,7 @@ const COUNTED: &[(Call, &str)] = &[
     ),
 ];
 
-/// A relay that comes up on a mount with `fallback-override` calls home who had asked for it.
+/// A relay that comes up on a mount with `fallback-override` calls home the listeners that had asked for it.
 const CALLS_HOME: &[(Call, &str)] = &[
     (UP, "arrived 1"),
     (Call::Arrive, "arrived 2"),

@@ -63,7 +63,7 @@ fn three_equal_replies(rt: HostRuntime) {
     assert!(rt; replies_three_times(rt.alloc(), EACH_REPLY));
 }
 
-/// The end of a session finishes its listeners, and theirs alone, until they leave.
+/// The end of a session finishes its listeners, and no others, until they leave.
 const SOURCE_ENDS: &[(Call, &str)] = &[
     (Call::Source(3, "/b"), "feeding"),
     (Call::Arrive, "arrived 4"),
@@ -78,7 +78,7 @@ const SOURCE_ENDS: &[(Call, &str)] = &[
     (Call::Draw(2, 9), "stray"),
 ];
 
-/// A source that leaves ends its session too; a listener of the next one hears that one alone.
+/// A source that leaves ends its session too. A listener of the next session hears only that one.
 const SOURCE_LEAVES: &[(Call, &str)] = &[
     (Call::Leave(1), "noted"),
     (Call::Source(3, "/a"), "feeding"),
@@ -89,7 +89,7 @@ const SOURCE_LEAVES: &[(Call, &str)] = &[
     (Call::Draw(4, 9), "drawn new"),
 ];
 
-/// Each rule of the policy that can be met in a test; one who is denied has had its answer.
+/// Each rule of the policy that a test can meet. A client that is denied has had its answer.
 const DENIALS: &[(Call, &str)] = &[
     (Call::Source(3, "/a"), "deny mount-in-use"),
     (Call::Source(3, "/b"), "stray"),
@@ -105,7 +105,8 @@ const DENIALS: &[(Call, &str)] = &[
     (Call::Draw(2, 9), "drawn abcd"),
 ];
 
-/// A command is given once, by a client who has asked for nothing; the reply to a client that it finished says so.
+/// A client gives a command once, if it has asked for nothing before. The reply to a client that the command finished
+/// says so.
 const COMMANDS: &[(Call, &str)] = &[
     (Call::KillClient(1, "/a", 2), "stray"),
     (Call::KillClient(2, "/a", 2), "stray"),

@@ -38,7 +38,7 @@ pub fn deliveries(alloc: Global, script: &[u8]) -> Result<Vec<Delivery>, OutOfMe
     Ok(all)
 }
 
-// What deliveries come to at a station: a transcript, or a fault.
+// Returns the result of deliveries at a station: a transcript, or a fault.
 pub fn run_at_station(
     alloc: Global,
     all: &[Delivery],
@@ -47,13 +47,13 @@ pub fn run_at_station(
     Ok(run(alloc, WebAnswers::none(), settings, Lists::new(alloc), all))
 }
 
-// What the deliveries of a script's lines come to.
+// Returns the result of the deliveries of a script's lines.
 fn run_all(alloc: Global, script: &[u8]) -> Result<Result<Transcript, RunFault>, SettingsFault> {
     let all = deliveries(alloc, script)?;
     run_at_station(alloc, all.as_slice())
 }
 
-// Whether the deliveries of the script's lines come to that transcript.
+// Returns whether the deliveries of the script's lines have this transcript.
 fn runs_to(alloc: Global, script: &[u8], transcript: &[u8]) -> bool {
     match run_all(alloc, script) {
         Ok(Ok(text)) => text.as_slice() == transcript,

@@ -1,4 +1,4 @@
-//! Seats of workers who take lines in memory, turn after turn.
+//! Seats of workers that take lines in memory, turn after turn.
 
 ghost use Rattle.std.specs.Prelude.{◌≡◌, ◌-◌, ◌<◌, All, IfOk, OnOk};
 ghost use Rattle.radio_workers.specs.Passes.{all_parts};
@@ -15,7 +15,8 @@ use std::alloc::Global;
 use std::sync::Wait;
 use test_stations::{Manners, MemoryLine};
 
-/// Where a worker's turns come from: a turn in each millisecond, and one who waits is taken before each.
+/// Decides when a worker's turns begin: there is one in each millisecond, and it takes one waiting connection before
+/// each.
 #[derive(Drop)]
 pub struct MemoryPost {
     alloc: Global,

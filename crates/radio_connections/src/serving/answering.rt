@@ -128,7 +128,7 @@ fn both(a: bool, b: bool) -> bool
     a && b
 }
 
-/// What comes from one who was given a seat is passed over.
+/// A client that was given a seat sends bytes that the connection ignores.
 fn pass_over_if<L: Line>(line: &mut L, sits: bool)
     ensures given { L.given line.new ≡ L.given line.old }
     ensures taken { L.taken line.new ≡ L.taken line.old }
@@ -146,7 +146,7 @@ pub(crate) fn is_leave(event: &Event) -> bool
     matches!(event, Event::Leave { .. })
 }
 
-/// Whether the client asks to hear a mount.
+/// Returns whether the client asks to listen to a mount.
 fn is_listen(event: &Event) -> bool
     ensures { result ≡ is_listen event.now }
 {

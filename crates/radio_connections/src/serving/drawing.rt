@@ -38,6 +38,7 @@ pub(crate) fn draw<S: Server, L: Line>(server: &mut S, conn: &mut Conn<L>, now: 
 /// Returns whether a draw is due at this status.
 fn is_due(status: ConnStatus, now: Now) -> bool
     ensures news { status.sits ≡ true → now.news ≡ true → result ≡ true }
+    ensures more { status.sits ≡ true → status.is_behind ≡ true → result ≡ true }
     ensures unasked { nat_le 500 (now.ms - status.asked_ms) ≡ true → result ≡ true }
 {
     if status.sits {

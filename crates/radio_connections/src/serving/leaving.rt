@@ -34,7 +34,7 @@ fn leave_over<S: Server, L: Line>(server: &mut S, conn: &mut Conn<L>)
     }
 }
 
-/// Notes, for the log, where the listener was last, who is forgotten when it has left.
+/// Notes the listener's last mount for the log, since the server forgets a listener that has left.
 #[cold]
 fn note_mount<S: Server, L: Line>(server: &S, conn: &Conn<L>) {
     if !conn.account.is_listener() {

@@ -24,7 +24,7 @@ pub(crate) fn linger<L: Line>(conn: &mut Conn<L>, buffer: &mut [u8; READ_ROOM], 
     }
 }
 
-/// The same where something was written.
+/// The same for a connection on which something was written.
 fn wait_for_close<L: Line>(conn: &mut Conn<L>, buffer: &mut [u8; READ_ROOM], now: Now)
     requires fate { conn.old.status.fate ≡ Fate.Ended }
     requires written { conn.old.status.has_taken ≡ true }

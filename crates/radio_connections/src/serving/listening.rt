@@ -1,4 +1,4 @@
-//! What comes on a connection.
+//! Reads what arrives on a connection.
 
 ghost use Rattle.std.specs.Prelude.{◌≡◌, [], List, if◌then◌else◌};
 ghost use Rattle.radio_events.specs.declared.entry.Entry.{Entry as EntryOf};

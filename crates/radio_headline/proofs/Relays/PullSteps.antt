@@ -83,7 +83,7 @@ module _ (web : WebAnswers) (settled : IsStableReading ShowsResponse) (within : 
               (takes_on settled within joined none_blocks in_pieces afters bytes log pulling r (entries w l.events) more now ends (pulled, is_pulled, l.are));
         }
 
-  -- more bytes may come where it was shut
+  -- more bytes may come after the pull was shut
   module _ (settled_requests : IsStableReading ShowsRequest) (within_requests : HeadsLieWithin ShowsRequest)
       (places : (place : Place) (first second : List ℕ) → after place (first ++ second) ≡ after (after place first) second)
       (data_joined : (place : Place) (first second : List ℕ) → data_of place (first ++ second) ≡ data_of place first ++ data_of (after place first) second) where

@@ -82,7 +82,7 @@ source_sent : (settings : Settings) (mount : List ℕ) (sent : Option Credential
 source_sent settings mount None e = cc
 source_sent settings mount (Some pair) e = e
 
--- where no row denies, the mount is live
+-- if no row denies, the mount is live
 may_end : (live sits : Bool) → verdict_in (row NoMount (not live) ∷ row NoClient (not sits) ∷ []) ≡ Allow → live ≡ true
 may_end true sits e = refl
 may_end false sits e = cc
@@ -127,7 +127,7 @@ module _ (w : World) (s : IsSound w) (event : Event) where
   was_there (AddUser mount user password) c = may_add (has_users w.station.lists mount) (needs_hold w event c)
   was_there (DeleteUser mount user) c = may_delete (has_users w.station.lists mount) (has_user_at w.station.lists mount user) (needs_hold w event c)
 
-  -- so who sent a login that may give it gave it by right
+  -- so a client that sent a login that may give the command gave it by right
   given : (command : TheCommand) (c : IsCommanded w event command) (login : Login) (has : HasLogin login c.asked.pair) → MayGive w has.pair command
       → IsGivenByRight w event
   given command c login has may = record {

@@ -44,7 +44,7 @@ module _ (w : World) (event : Event) (command : TheCommand) (c : IsCommanded w e
   was_live_then s now e =
       live_by (session_of w.station.live mount) (session_of (changed w (Obey c.asked.id command)).station.live mount) (obeys w s mount event command c) now e
 
--- where one has lost its seat, nobody has come
+-- after a listener has lost its seat, nobody has sat down
 module _ (him : ℕ) (rule : Rule) (mount : List ℕ) where
   not_there : (seating : Seating) → is_seat_at mount (lost_by rule seating) ≡ false
   not_there (HasSeat seat) = refl

@@ -1,4 +1,4 @@
--- what becomes of those who sit at a mount whose users a command changes, and of who is let in
+-- what a command that changes the users of a mount does to its listeners, and to the users that it lets in
 use Rattle.std.proofs.Common.{◌≡◌, ◌↔◌, ◌⊎◌, inl, inr, Bool, true, false, ℕ, ◌+◌, Option, Some, None, is_some, List, [], refl, ap, sym, subst, ◌∙◌}
 use Rattle.std.specs.Prelude.{◌&&◌, not, if◌then◌else◌}
 use Rattle.std.specs.Str.{bytes_eq}
@@ -48,13 +48,13 @@ is_let_in : (b : Bool) → not b ≡ false → b ≡ true
 is_let_in true e = refl
 is_let_in false e = cc
 
--- who is not shut out of the mount, and sits there, is let in
+-- a listener at the mount that is not shut out of it is let in
 let_in_there : (lists : Lists) (mount : List ℕ) (seat : Seat) → is_shut_out lists mount seat ≡ false → seat.mount ≡ mount → lets_in lists mount seat.pair ≡ true
 let_in_there lists mount seat stays at =
     let there : bytes_eq seat.mount mount ≡ true = (bytes_eq-Decides seat.mount mount).1 at in
     is_let_in (lets_in lists mount seat.pair) (sym (ap (λ (b : Bool). b && not (lets_in lists mount seat.pair)) there) ∙ stays)
 
--- those have lost their seats whom the users of the mount do not let in
+-- the listeners whom the users of the mount do not let in have lost their seats
 module _ (lists : Lists) (mount : List ℕ) (seats : List Listener) where
   abbrev pub left : List Listener
   left = with_ended seats (is_shut_out lists mount) ListenerPassword
@@ -75,11 +75,11 @@ module _ (lists : Lists) (mount : List ℕ) (seats : List Listener) where
       passing_mapped (λ (x : Listener). is_seat_at mount x.seating) (finished_if (is_shut_out lists mount) ListenerPassword)
       (λ (x : Listener). holds_of (is_shut_out lists mount) x.seating) (λ x. one_here x.seating) seats
 
-  -- who has a seat still is let in by them, if it sits there
+  -- a listener at the mount that still has a seat is let in by them
   pub still_let_in : (id : ℕ) (seat : Seat) → seat_of left id ≡ Some seat → seat.mount ≡ mount → lets_in lists mount seat.pair ≡ true
   still_let_in id seat has at = let_in_there lists mount seat (kept_seat (is_shut_out lists mount) ListenerPassword seats id seat has) at
 
-  -- who sits elsewhere sits there still
+  -- a listener at another mount still sits there
   pub still_elsewhere : (id : ℕ) (seat : Seat) → seat_of seats id ≡ Some seat → bytes_eq mount seat.mount ≡ false → seat_of left id ≡ Some seat
   still_elsewhere id seat has away = by_loss (same_or_loses (is_shut_out lists mount) ListenerPassword seats id) where
     by_loss : (listener_of left id ≡ listener_of seats id) ⊎ LosesSeat (is_shut_out lists mount) ListenerPassword (listener_of seats id) (listener_of left id)
@@ -168,7 +168,7 @@ deleted_has_users w event {mount} {user} c =
     some_listed (users_at w.station.lists mount) user
     (may_delete (has_users w.station.lists mount) (has_user_at w.station.lists mount user) (needs_hold w event c))
 
--- who is let in, one step after another
+-- the users that are let in, one step after another
 module _ (w : World) (event : Event) where
   record IsMade (later : Lists) : Type 0 where
     pub pairs : (mount : List ℕ) (pair : Credentials) → LetInStep w event mount pair (lets_in w.station.lists mount (Some pair)) (lets_in later mount (Some pair))

@@ -52,7 +52,7 @@ module _ (denies : (rows : List Row) (rule : Rule) → (verdict_in rows ≡ Deni
   abbrev Denial : Event → Outcome → Type 0
   Denial event o = (rule : Rule) → o.reply ≡ Deny rule → Denies (rows_for w event) rule × IsOnlyAnswered w (changed w o.change) (client_in event)
 
-  -- who is there and has asked for nothing is undecided
+  -- a client that is there and has asked for nothing is undecided
   is_undecided : (relay : Option Relay) (listener : Option Listener) (client : Option Client) (him : Client) → client ≡ Some him → him.state ≡ IsNew
       → standing_of_found relay listener client ≡ Undecided him.peer
   is_undecided relay listener client him there new = ap (standing_of_found relay listener) there ∙ by_state him new where
@@ -138,7 +138,7 @@ addresses_hold w = record {
       (address_not_allowed facts.address_is_denied facts.address_is_allowed facts.clients_are_full facts.number_is_spent e f);
 }
 
--- who feeds sent the login of the source
+-- a client that feeds a mount has sent the login of the source
 is_his_login : (login : Login) (pair : Credentials) → is_login login pair ≡ true → (pair.user ≡ login.username) × (pair.password ≡ login.password)
 is_his_login login pair e = by_parts (bytes_eq login.username pair.user) (bytes_eq login.password pair.password) refl refl e where
   by_parts : (a b : Bool) → bytes_eq login.username pair.user ≡ a → bytes_eq login.password pair.password ≡ b → (a && b) ≡ true

@@ -27,7 +27,7 @@ use Rattle.radio_laws.proofs.Listings.WebLaws.{is_path}
 denied_so : (v : Verdict) (rule : Rule) (denied : Change) (allowed : Outcome) → v ≡ Denied rule → on_verdict v denied allowed ≡ says (Deny rule) denied
 denied_so v rule denied allowed e = rw e refl
 
--- who asks for a path that is none of the web site's
+-- a client asks for a path that is none of the web site's
 no_page : (w : World) (asked : ListenRequest) → ((path : WebPath) → IsPath w asked.mount path → ⊥) → web_path w.station.settings.web asked.mount ≡ None
 no_page w asked none = by_path (web_path w.station.settings.web asked.mount) refl where
   by_path : (found : Option WebPath) → web_path w.station.settings.web asked.mount ≡ found → found ≡ None

@@ -1,4 +1,4 @@
--- a listener, a client or a source is denied by a limit only where the limit is reached
+-- a listener, a client or a source is denied by a limit only if the limit is reached
 use Rattle.std.proofs.Common.{Option, ◌≡◌, Bool, true, false, ℕ, ◌<◌, ◌≤◌, not, Some, None, List, [], ◌∷◌, length, refl, ap, sym, ◌∙◌, arith}
 use Rattle.std.specs.Prelude.{if◌then◌else◌}
 use Rattle.std.proofs.lemmas.Bool.Decides.{nat_tests}
@@ -134,7 +134,7 @@ module _ (w : World) where
   no_limit_to_raise meant bad many used type spent mount shown true = (many, (used, (type, (spent, tt))))
   no_limit_to_raise meant bad many used type spent mount shown false = (bad, tt)
 
-  -- such a rule denies who asks for something, where it is none of a command's and not that of numbers
+  -- such a rule denies a client that asks for something, if it is no command's rule and not the rule of spent numbers
   by_asking : {A : Type 0} (meant : Rule → Bool) (rule : Rule) → meant rule ≡ true → meant NumbersSpent ≡ false
       → ((facts : Option CommandFacts) → Each (λ row. meant row.rule ≡ false) (command_rows facts)) → (event : Event) → verdict_in (rows_for w event) ≡ Denied rule
       → ((peer : Peer) → verdict_in (rows_for w (Arrive peer)) ≡ Denied rule → A) → ((asked : SourceRequest) → verdict_in (rows_for w (Source asked)) ≡ Denied rule → A)
@@ -155,7 +155,7 @@ module _ (w : World) where
   by_asking meant rule is no_number no_command (RelayDown id) v arrives feeds hears rises = cc
   by_asking meant rule is no_number no_command (Clock ms) v arrives feeds hears rises = cc
 
-  -- the limits deny only a client that asks to hear a mount
+  -- the limits deny only a client that asks to listen to a mount
   only_listeners : {A : Type 0} (rule : Rule) → is_limit rule ≡ true → (event : Event) → verdict_in (rows_for w event) ≡ Denied rule
       → ((asked : ListenRequest) → event ≡ Listen asked → verdict_in (rows_for w (Listen asked)) ≡ Denied rule → A) → A
   only_listeners rule limit event v goes =

@@ -38,7 +38,7 @@ some_there None e = cc
 some_there (Some session) e = (session, refl)
 
 module _ (w : World) where
-  -- what stops a walk where it finds this
+  -- what stops a walk at this mount
   module _ (pair : Option Credentials) (mount : List ℕ) where
     as_rule : (a b : Rule) → a ≡ b → StopsAt w pair mount a → StopsAt w pair mount b
     as_rule a b same stops = subst (λ (r : Rule). StopsAt w pair mount r) same stops

@@ -1,4 +1,4 @@
--- the law of those who have left
+-- the law of clients that have left
 use Rattle.std.proofs.Common.{◌≡◌, inl, inr, true, false, ℕ, ◌<◌, ◌≤◌, Bool, Some, List, [], ◌∷◌, ◌++◌, refl, ap, sym, subst, ◌∙◌, arith, Option, None}
 use Rattle.std.specs.Prelude.{if◌then◌else◌, nat_lt}
 use Rattle.std.proofs.lemmas.Bool.Decides.{nat_tests}
@@ -47,7 +47,7 @@ after_joined : (w : World) (events more : List Event) → world_after_all w (eve
 after_joined w [] more = refl
 after_joined w (event ∷ events) more = after_joined (world_after w event) events more
 
--- who has a seat has a number that was given
+-- a listener with a seat has a number that was given
 pub given_number : (w : World) → IsSound w → (id : ℕ) (seat : Seat) → seat_of w.seats id ≡ Some seat → id ≤ w.station.last_id
 given_number w s id seat has = by_order (nat_lt w.station.last_id id) refl where
   by_order : (above : Bool) → nat_lt w.station.last_id id ≡ above → id ≤ w.station.last_id
@@ -58,7 +58,7 @@ given_number w s id seat has = by_order (nat_lt w.station.last_id id) refl where
       cc
   by_order false above = grind (arith, nat_tests)
 
--- who leaves is gone
+-- a client that leaves is gone
 left_by : (w : World) (id : ℕ) → id ≤ w.station.last_id → (s : Standing) → standing_of w id ≡ s → HasLeft (changed w (leaves_from id s).change) id
 left_by w id given Unknown e = (given, e)
 left_by w id given (Feeds mount) e = (given, (turns_forgotten (session_ended w mount) id).his)

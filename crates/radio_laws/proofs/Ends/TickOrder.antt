@@ -1,4 +1,4 @@
--- who is ended at a moment, by which rule
+-- which clients end at a moment, and by which rule
 use Rattle.std.proofs.Common.{◌≡◌, ◌⊎◌, ◌==◌, inl, inr, true, false, Bool, ℕ, Option, Some, None, is_some, List, [], ◌∷◌, refl, ap, sym, subst, ◌∙◌}
 use Rattle.std.specs.Prelude.{if◌then◌else◌, fold}
 use Rattle.std.specs.Option.{option_map, option_map_or}
@@ -52,7 +52,7 @@ use Rattle.radio_laws.proofs.Ends.StationSteps.{silence_keeps}
 use Rattle.radio_laws.proofs.Ends.InTime.{in_time}
 use Rattle.radio_laws.proofs.Seats.StayingOn.{walks_from}
 
--- who has finished stays so
+-- a finished client stays finished
 module _ (w : World) (s : IsSound w) (ms : ℕ) (from later : World) (f : ClockFates w s ms from later) (id : ℕ) (rule : Rule)
     (e : standing_of from id ≡ Finished rule) where
   pub finished_on : standing_of later id ≡ Finished rule
@@ -64,7 +64,7 @@ module _ (w : World) (s : IsSound w) (ms : ℕ) (from later : World) (f : ClockF
     by_fate (HasStopped mount why feeding done none over) = absurd why
     by_fate (IsMoved old session carries left had has same live opens) = same ∙ e
 
--- a client who has asked for nothing is undecided
+-- a client that has asked for nothing is undecided
 new_in : (relay : Option Relay) (listener : Option Listener) (found : Option Client) (client : Client) → found ≡ Some client → client.state ≡ IsNew
     → standing_of_found relay listener found ≡ Undecided client.peer
 new_in relay listener found client there new = ap (standing_of_found relay listener) there ∙ by_state client new where
@@ -181,7 +181,7 @@ module _ (w : World) (s : IsSound w) (ms : ℕ) where
           by_fare (HasGone old to turn had concerned fits now) = concerns_another old had concerned
           by_fare (HasLost old rule turn had concerned now) = concerns_another old had concerned
 
-    -- whose time is not over has its seat when the silent sessions begin to end
+    -- a listener whose time is not over has its seat when the silent sessions begin to end
     pub sits_at_first : seat_of w.seats id ≡ Some seat → has_sat_out w.station.settings ms seat ≡ false → seat_of (before_silence w ms).seats id ≡ Some seat
     sits_at_first has not_out = by_loss (same_or_loses (has_sat_out w.station.settings ms) TimeOver w.seats id) where
       by_loss : (listener_of (before_silence w ms).seats id ≡ listener_of w.seats id)
@@ -194,7 +194,7 @@ module _ (w : World) (s : IsSound w) (ms : ℕ) where
           let out : has_sat_out w.station.settings ms seat ≡ true = ap (has_sat_out w.station.settings ms) (sym one) ∙ loses.holds in
           cc
 
-    -- and where that of its mount was one of them, it does not have it when they have ended
+    -- if the session of its mount is one of those that end, it does not have this seat after them
     pub sits_no_more : (session : Session) → seat_of w.seats id ≡ Some seat → session_of w.station.live seat.mount ≡ Some session
         → is_silent w.station.settings.limits.source_timeout ms session ≡ true → seat_of (ticked w ms).seats id ≡ Some seat → {A : Type 0} → A
     sits_no_more session has live silent still =
@@ -211,7 +211,8 @@ module _ (w : World) (s : IsSound w) (ms : ℕ) where
         let no : (0 == 0) ≡ false = ap (λ (n : ℕ). n == 0) (sym zero) ∙ sits_past_zero w s id seat session has live in
         cc)
 
-  -- where a listener's mount has no fallback, and no relay feeds it on demand, it sits there until its session ends, and is finished then
+  -- If a listener's mount has no fallback, and no relay feeds it on demand, it sits there until its session ends. Then it is
+  -- finished.
   module _ (id : ℕ) (seat : Seat) (no_fallback : fallback_of w.station seat.mount ≡ None) (never : is_on_demand w.station.settings seat.mount ≡ false) where
     -- the seat that it has still, or that it has finished since its mount is not live any more
     abbrev IsStillOrOut : World → Type 0

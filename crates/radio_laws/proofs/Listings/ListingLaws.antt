@@ -1,4 +1,4 @@
--- who is shown a listing, and what
+-- which clients are shown a listing, and what it shows
 use Rattle.std.proofs.Common.{◌≡◌, ◌⊎◌, inl, inr, ◌||◌, ◌&&◌, Bool, true, false, ℕ, Option, Some, None, List, refl, ap, sym, subst, ◌∙◌, [], ◌∷◌}
 use Rattle.std.specs.Prelude.{not}
 use Rattle.std.specs.Option.{option_map_or}
@@ -87,7 +87,7 @@ module _ (w : World) where
   as_either sent (inl admin) = as_admin Streams sent admin
   as_either sent (inr relay) = as_relay sent relay
 
-  -- whom the policy allows it may see it
+  -- a client that the policy allows a listing may see it
   may_see : (listing : Listing) (sent : Option Credentials) → verdict_in (command_rows (facts_asked w (AsksFor listing) sent)) ≡ Allow
       → MaySee w listing sent × IsThereToSee w listing
   may_see Status sent e = (AsAnybody sent, tt)

@@ -24,7 +24,7 @@ use Rattle.radio_laws.specs.Walks.{FallsBack, ByTheSettings, ByACommand}
 use Rattle.radio_laws.proofs.Seats.WalkLemmas.{falls_back}
 
 module _ (w : World) where
-  -- where listeners of a mount fall back to another, that is the one
+  -- the mount to which listeners of this one fall back is its fallback
   falls_to : (mount next : List ℕ) → FallsBack w mount next → fallback_of w.station mount ≡ Some next
   falls_to mount next (ByTheSettings goes none) =
       ap (λ (found : Option Fallback). option_map_or (λ (set : Fallback). set.fallback) found (options_for w.station.settings mount).listeners.fallback_mount) none

@@ -17,6 +17,7 @@ use Rattle.radio_seats_rows.specs.Seats.{with_move, loses, with_end, hears_sessi
 use Rattle.radio_seats_rows.specs.Seats.{lost_by, ended_if, heard_to, finished_if, with_ended, is_seat_at, without_listener, seats_at, count_at, is_user_at, sits_there, last_mount, last_mount_of}
 use Rattle.radio_seats.specs.Listed.{guest_at, guests_at}
 use Rattle.radio_parts_mount.specs.Sessions.{Session, is_of, session_of, by_mount, with_session, longer, fed, with_title, titled, without_session}
+use Rattle.radio_parts_mount.specs.Kept.{longer_kept, kept_fed}
 use Rattle.radio_laws.specs.Locality.{SessionsAgree, SameSession, FedBeyond, ListenersAgree, SameListener, LastBeyond, IsAll}
 use Rattle.radio_parts_table.specs.Agree.{AllAgree}
 use Rattle.radio_laws.proofs.Locality.AgreeingLists.{FoundAgree, NoneFound, BothFound, agree_length, agree_equal, agree_mapped, agree_kept, agree_any, agree_filtered, agree_found}
@@ -34,7 +35,7 @@ module _ (within : List ℕ → Bool) where
     by_test false e = refl
     by_test true e = let same : here ≡ mount = (bytes_eq-Decides here mount).0 e in let clash : within mount ≡ false = ap within (sym same) ∙ out in cc
 
-  -- and nobody who sits there is shut out of one
+  -- and no listener beyond reach is shut out of a mount within it
   pub none_out : (lists : Lists) (mount : List ℕ) (seat : Seat) → within seat.mount ≡ false → within mount ≡ true → is_shut_out lists mount seat ≡ false
   none_out lists mount seat out there = rw (beyond seat.mount mount out there) refl
 
@@ -88,6 +89,12 @@ module _ (within : List ℕ → Bool) where
         agree_updated (SessionsAgree within) (is_of mount) (of_alike mount) (longer block moment) xs ys
         (λ a b agree found. changed_alike (longer block moment) (λ s. refl) (λ s. refl) a b agree) r
 
+    -- where of each stream the last blocks are kept
+    pub kept_fed_alike : (limit : ℕ) (mount block : List ℕ) (moment : ℕ) → SessionsDo (kept_fed limit xs mount block moment) (kept_fed limit ys mount block moment)
+    kept_fed_alike limit mount block moment =
+        agree_updated (SessionsAgree within) (is_of mount) (of_alike mount) (longer_kept limit block moment) xs ys
+        (λ a b agree found. changed_alike (longer_kept limit block moment) (λ s. refl) (λ s. refl) a b agree) r
+
     pub titled_alike : (mount title : List ℕ) → SessionsDo (titled xs mount title) (titled ys mount title)
     titled_alike mount title =
         agree_updated (SessionsAgree within) (is_of mount) (of_alike mount) (with_title (Some title)) xs ys
@@ -121,7 +128,7 @@ module _ (within : List ℕ → Bool) where
     SameSeat : (seat : Option Seat) → SeatsAgree seat seat
     BothBeyond : (one other : Option Seat) → IsBeyond one → IsBeyond other → SeatsAgree one other
 
-  -- who sits beyond reach, or sat there last, has no seat within it
+  -- a listener that sits beyond reach, or sat there last, has no seat within it
   held_beyond : (seating : Seating) → within (last_mount seating) ≡ false → IsBeyond (seat_held seating)
   held_beyond (Sits seat) out = out
   held_beyond (Finished rule mount) out = tt
@@ -150,7 +157,7 @@ module _ (within : List ℕ → Bool) where
       by_found _ _ (BothFound a b (LastBeyond same out away)) e =
           let there : within (last_mount b.seating) ≡ true = near (last_mount b.seating) (ap (option_map (λ (l : Listener). last_mount l.seating)) e) in cc
 
-    -- a test of who sits at a mount within reach
+    -- tests of the listeners at a mount within reach
     module _ (mount : List ℕ) (there : within mount ≡ true) where
       not_there : (seating : Seating) → within (last_mount seating) ≡ false → is_seat_at mount seating ≡ false
       not_there (Sits seat) out = beyond seat.mount mount out there
@@ -209,7 +216,7 @@ module _ (within : List ℕ → Bool) where
     with_place_alike id place =
         agree_updated (ListenersAgree within) (is_listener id) (is_alike id) (advanced place) xs ys (λ a b agree found. heard_alike place a b agree) r
 
-    -- as many seats are there of which something holds, where it holds of none beyond reach
+    -- if something holds of no seat beyond reach, it holds of equally many seats in both states
     module _ (p : Seat → Bool) (none : (seat : Seat) → within seat.mount ≡ false → p seat ≡ false) where
       holds_not : (seating : Seating) → within (last_mount seating) ≡ false → holds_of p seating ≡ false
       holds_not (Sits seat) out = none seat out
@@ -222,7 +229,7 @@ module _ (within : List ℕ → Bool) where
       pub how_many_alike : how_many p xs ≡ how_many p ys
       how_many_alike = ap length (agree_picked (ListenersAgree within) (λ (l : Listener). holds_of p l.seating) holds_alike xs ys r)
 
-    -- seats of which something holds are lost, where it holds of none beyond reach
+    -- seats of which something holds are lost, and it holds of none beyond reach
     module _ (p : Seat → Bool) (rule : Rule) (none : (seat : Seat) → within seat.mount ≡ false → p seat ≡ false) where
       lost_last : (seating : Seating) → last_mount (lost_by rule seating) ≡ last_mount seating
       lost_last (Sits seat) = refl
@@ -258,7 +265,7 @@ module _ (within : List ℕ → Bool) where
       pub given_alike : ListenersDo (with_session_at xs mount session) (with_session_at ys mount session)
       given_alike = agree_each (ListenersAgree within) (hears_session mount session) hearing_alike xs ys r
 
-    -- who has a seat within reach moves, or loses it
+    -- a listener with a seat within reach moves, or loses its seat
     module _ (id : ℕ) (near : (seat : Seat) × (seat_of ys id ≡ Some seat) × (within seat.mount ≡ true)) where
       last_held : (seating : Seating) (seat : Seat) → seat_held seating ≡ Some seat → last_mount seating ≡ seat.mount
       last_held (Sits old) seat e = let same : old ≡ seat = cc in ap (λ (x : Seat). x.mount) same

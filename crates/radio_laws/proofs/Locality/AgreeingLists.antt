@@ -26,7 +26,7 @@ module _ {X : Type 0} (R : X → X → Type 0) where
   agree_length [] (y ∷ ys) r = absurd r
   agree_length (x ∷ xs) [] r = absurd r
 
-  -- where only equals agree, the lists are equal
+  -- if only equals agree, the lists are equal
   pub agree_equal : ((x y : X) → R x y → x ≡ y) → (xs ys : List X) → AllAgree R xs ys → xs ≡ ys
   agree_equal same [] [] r = refl
   agree_equal same (x ∷ xs) (y ∷ ys) r = let here = same x y r.0 in let later = agree_equal same xs ys r.1 in cc

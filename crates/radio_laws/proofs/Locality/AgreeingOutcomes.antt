@@ -64,7 +64,7 @@ module _ (within : List ℕ → Bool) (w : World) (live : List Session) (seats :
   abbrev v : World
   v = in_place w live seats
 
-  -- where all is within reach, the states are one
+  -- if all mounts are within reach, the states are the same
   pub all_one : IsAll within → v ≡ w
   all_one all = by_parts live seats (all_sessions within live w.station.live r all) (all_listeners within seats w.seats s all) where
     by_parts : (l : List Session) (t : List Listener) → l ≡ w.station.live → t ≡ w.seats → in_place w l t ≡ w
@@ -172,7 +172,7 @@ module _ (within : List ℕ → Bool) (w : World) (live : List Session) (seats :
   facts_alike (AsksFor Streams) pair near = refl
   facts_alike (Asks command) pair near = rw (needs_alike command near) refl
 
-  -- those whom the users of a mount within reach do not let in sit there
+  -- equally many listeners sit at a mount within reach whom its users do not let in
   out_alike : (lists : Lists) (mount : List ℕ) → within mount ≡ true → how_many (is_shut_out lists mount) seats ≡ how_many (is_shut_out lists mount) w.seats
   out_alike lists mount near = how_many_alike within seats w.seats s (is_shut_out lists mount) (λ seat out. none_out within lists mount seat out near)
 

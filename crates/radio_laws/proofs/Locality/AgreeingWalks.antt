@@ -54,7 +54,7 @@ module _ (within : List ℕ → Bool) (w : World) (live : List Session) (r : Ses
   abbrev pub Onward : Type 0
   Onward = (mount next : List ℕ) → within mount ≡ true → fallback_of w.station mount ≡ Some next → within next ≡ true
 
-  -- what a walk finds at a mount within reach, where these are the others in both states
+  -- what a walk finds at a mount within reach, if these are the other listeners in both states
   module _ (here there : List Listener) (s : ListenersDo within here there) where
     full_alike : (mount : List ℕ) → within mount ≡ true → is_full_for one here mount ≡ is_full_for other there mount
     full_alike mount near = ap (λ n. is_full n (other.limit mount)) (count_alike within here there s mount near)
@@ -117,7 +117,7 @@ module _ (within : List ℕ → Bool) (w : World) (live : List Session) (r : Ses
       lands_by (suc left) mount to pair near lands =
           lands_on left mount to pair near (λ next. lands_by left next to pair) (next_mount other there mount) refl lands
 
-      -- and where it lands, that is within reach
+      -- and the mount at which it lands is within reach
       pub lands_within : (mount to : List ℕ) (pair : Option Credentials) → within mount ≡ true → landing other there pair mount ≡ Lands to → within to ≡ true
       lands_within mount to pair near lands = lands_by 10 mount to pair near (walks_ten other there pair mount ∙ lands)
 
@@ -127,8 +127,8 @@ module _ (within : List ℕ → Bool) (w : World) (live : List Session) (r : Ses
   MovesWithin (Up mount) = ⊥
   MovesWithin (To mount destination) = (within mount ≡ true) × (within destination ≡ true)
 
-  -- whom it concerns sits within reach
-  concerned : (move : Move) → MovesWithin move → (seat : Seat) → concerns move seat.mount seat.home ≡ true → within seat.mount ≡ true
+  -- a listener that the move concerns sits within reach
+  pub concerned : (move : Move) → MovesWithin move → (seat : Seat) → concerns move seat.mount seat.home ≡ true → within seat.mount ≡ true
   concerned (Ended mount) near seat e = let same : seat.mount ≡ mount = (bytes_eq-Decides seat.mount mount).0 e in ap within same ∙ near.0
   concerned (Up mount) near seat e = absurd near
   concerned (To mount destination) near seat e = let same : seat.mount ≡ mount = (bytes_eq-Decides seat.mount mount).0 e in ap within same ∙ near.0
@@ -189,7 +189,7 @@ module _ (within : List ℕ → Bool) (w : World) (live : List Session) (r : Ses
         by_test false is goes = cc
 
     -- and so does a listener that the move leaves out
-    pub out_within : (seats : List Listener) (id : ℕ) (rule : Rule) (seat : Seat) → turn_of other move seats id ≡ IsOut rule → seat_of seats id ≡ Some seat
+    out_within : (seats : List Listener) (id : ℕ) (rule : Rule) (seat : Seat) → turn_of other move seats id ≡ IsOut rule → seat_of seats id ≡ Some seat
         → within seat.mount ≡ true
     out_within seats id rule seat e has = by_test (concerns move seat.mount seat.home) refl (ap (turn_in other (without_listener seats id) move) (sym has) ∙ e) where
       by_test : (b : Bool) → concerns move seat.mount seat.home ≡ b

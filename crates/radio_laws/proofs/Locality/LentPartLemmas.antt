@@ -1,6 +1,7 @@
 -- states before and after a part was lent agree on all mounts but its own
-use Rattle.std.proofs.Common.{◌≡◌, true, ℕ, ◌==◌, Option, Some, List, [], ◌∷◌, not, refl, ap, sym, ◌∙◌}
+use Rattle.std.proofs.Common.{◌≡◌, true, ℕ, ◌==◌, Option, Some, List, [], ◌∷◌, not, Ok, refl, ap, sym, subst, ◌∙◌}
 use Rattle.std.specs.Str.{bytes_eq}
+use Rattle.std.specs.declared.alloc.AllocError.{AllocError}
 use Rattle.std.proofs.lemmas.Bool.{eqb-true}
 use Rattle.std.proofs.lemmas.Slice.Eq.{bytes_eq-Decides}
 use Rattle.radio_tables.proofs.FindLaws.{found_passes}
@@ -16,7 +17,15 @@ use Rattle.radio_policy.specs.declared.rule.Rule.TheVariants.{Lagged}
 use Rattle.radio_seats_rows.specs.declared.seat.Listener.{Listener}
 use Rattle.radio_seats_rows.specs.declared.seat.Seating.{Seating}
 use Rattle.radio_seats_rows.specs.declared.seat.Seating.TheVariants.{Sits, Finished}
-use Rattle.radio_seats_rows.specs.Seats.{heard_to, last_mount, lost_by}
+use Rattle.radio_seats_rows.specs.Seats.{AreByNumber, heard_to, last_mount, lost_by}
+use Rattle.radio_events.specs.declared.event.Event.{Event}
+use Rattle.radio_parts.specs.CanStep.{CanStep}
+use Rattle.radio_parts.specs.ControlSteps.{control_after, control_reply}
+use Rattle.radio_parts.specs.Planned.{planned}
+use Rattle.radio_parts.specs.Step.{world_after}
+use Rattle.radio_core.specs.Represents.{Represents, StandsForSome}
+use Rattle.radio_core.proofs.Kept.CanSteps.{stands_can}
+use Rattle.radio_core.proofs.Kept.StepLemmas.{step_done}
 use Rattle.radio_laws.specs.LentParts.{all_but}
 use Rattle.radio_laws.specs.Locality.{AgreeWithin, FedBeyond, LastBeyond, ListenersAgree, SameListener, SameSession, SessionsAgree}
 
@@ -67,3 +76,19 @@ lent_agree part there before after lent = record {
       (λ b is. found_passes (is_of part.mount) after.station.live b (lent.session ∙ is)) before.station.live after.station.live lent.sessions;
   listeners = listeners_agree part.mount before.seats after.seats lent.listeners;
 }
+
+-- a core represents the state after the event, once it has stepped
+pub core_after : (core w : World) (event : Event) → Represents core w → Represents (control_after core event) (world_after w event)
+core_after core w event stands =
+    let stepped = step_done core (control_after core event) event (planned core event) refl {E = AllocError} (Ok (control_reply core event)) refl refl w stands in
+    subst (Represents (control_after core event)) stepped.1.1 stepped.2
+
+-- and it can step
+pub core_can : (core w : World) (event : Event) → Represents core w → CanStep core event
+unfolding StandsForSome
+core_can core w event stands = stands_can core (w, stands) event
+
+-- its listeners are in the order of their numbers
+pub core_ordered : (core w : World) → Represents core w → AreByNumber core.seats
+unfolding Represents
+core_ordered core w stands = subst (λ (x : World). AreByNumber x.seats) (sym stands.shows) stands.sound.by_number

@@ -15,7 +15,7 @@ use Rattle.radio_events.specs.declared.command.Asked.TheVariants.{Command as Ask
 use Rattle.radio_events.specs.declared.command.Command.{Command as TheCommand}
 use Rattle.radio_events.specs.declared.command.Command.TheVariants.{MoveClients, KillClient, KillSource, SetTitle as NewTitle, SetFallback, AddUser, DeleteUser}
 use Rattle.radio_events.specs.declared.event.Event.{Event}
-use Rattle.radio_events.specs.declared.event.Event.TheVariants.{Command}
+use Rattle.radio_events.specs.declared.event.Event.TheVariants.{Command, Draw}
 use Rattle.radio_parts_changes.specs.declared.change.Change.{Change}
 use Rattle.radio_parts_changes.specs.declared.change.Change.TheVariants.{Nothing, Begin, Raise, Receive, End}
 use Rattle.radio_parts_changes.specs.declared.change.Change.TheVariants.{EndAndLeave, Tick, Obey}
@@ -24,9 +24,16 @@ use Rattle.radio_parts_station.specs.declared.standing.Standing.TheVariants.{Fee
 use Rattle.radio_parts_changes.specs.Changes.{changed, session_over, session_ended, session_killed, answered, laggards_ended, block_received, on_air}
 use Rattle.radio_parts_changes.proofs.PartChanges.{is_taken_in, is_on_air}
 use Rattle.radio_parts_station.specs.StationChanges.{received, retitled}
+use Rattle.radio_parts_changes.specs.KeptChanges.{kept_taken_in, kept_changed}
+use Rattle.radio_parts_mount.specs.Kept.{kept_fed}
+use Rattle.radio_parts.specs.CanStep.{MayDraw, CanStep}
+use Rattle.radio_parts.specs.ControlSteps.{control_after}
+use Rattle.radio_parts.specs.Planned.{planned, uncounted}
+use Rattle.radio_parts.proofs.PlannedLemmas.{planned_so}
+use Rattle.radio_fallback.proofs.FitsLemmas.{sits_last}
 use Rattle.radio_parts.specs.Closing.{Closes, OfClient, OfRelay}
 use Rattle.radio_parts.specs.Allowed.{IsCommanded}
-use Rattle.radio_parts_station.specs.Facts.{live_end}
+use Rattle.radio_parts_mount.specs.StatePart.{end_in}
 use Rattle.radio_parts.specs.Listen.{first_seat}
 use Rattle.radio_parts_station.specs.Streams.{shown_for}
 use Rattle.radio_parts_mount.specs.Stream.{data_at}
@@ -37,16 +44,16 @@ use Rattle.radio_parts.specs.Ways.{EndsAndLeaves, Leaves, GoesDown, Obeys, Shows
 use Rattle.radio_parts_station.specs.World.{World, standing_of}
 use Rattle.radio_core.proofs.Seats.CommandedSeats.{killed_seat}
 use Rattle.radio_parts.proofs.Ways.{way_of}
-use Rattle.radio_laws.specs.Locality.{AgreeWithin, SessionsAgree, SameSession, ListenersAgree, SameListener, IsAll, IsWithinReach, ReachesWithin, AsksWithin, ComesUpWithin, WalksWithin}
+use Rattle.radio_laws.specs.Locality.{AgreeWithin, SessionsAgree, SameSession, ListenersAgree, SameListener, IsAll, IsWithinReach, LastWithin, ReachesWithin, AsksWithin, ComesUpWithin, WalksWithin}
 use Rattle.radio_laws.specs.Locality.{AnswersAlike}
 use Rattle.radio_laws.proofs.Locality.AgreeingLists.{agree_all}
 use Rattle.radio_laws.proofs.Locality.Agreeing.{beyond, SessionsDo, session_alike, with_session_alike, without_session_alike, fed_alike, titled_alike, ListenersDo}
-use Rattle.radio_laws.proofs.Locality.Agreeing.{with_seat_alike, without_alike, with_place_alike, with_end_alike, with_ended_alike, given_alike}
+use Rattle.radio_laws.proofs.Locality.Agreeing.{with_seat_alike, without_alike, with_place_alike, with_end_alike, with_ended_alike, given_alike, listener_same, kept_fed_alike}
 use Rattle.radio_laws.proofs.Locality.AgreeingWalks.{carried_alike}
-use Rattle.radio_laws.proofs.Locality.AgreeingOutcomes.{in_place, onward_by, all_one, outcome_alike}
+use Rattle.radio_laws.proofs.Locality.AgreeingOutcomes.{in_place, onward_by, all_one, standing_alike, outcome_alike}
 use Rattle.radio_access.specs.Lists.{Lists, with_user_at, without_user_at}
 use Rattle.radio_policy.specs.declared.rule.Rule.TheVariants.{ListenerPassword}
-use Rattle.radio_seats_rows.specs.Seats.{with_ended, with_session_at}
+use Rattle.radio_seats_rows.specs.Seats.{seat_in, seat_of, with_ended, with_session_at}
 use Rattle.radio_parts_station.specs.Outsiders.{is_shut_out}
 use Rattle.radio_laws.proofs.Locality.Agreeing.{none_out}
 
@@ -70,7 +77,7 @@ comes_alike : (within : List ℕ → Bool) (a b x y : World) → a ≡ x → b �
 comes_alike within a b x y one two agree =
     subst (λ (c : World). AgreeWithin within c b) (sym one) (subst (λ (c : World). AgreeWithin within x c) (sym two) agree)
 
--- and where a title is set in both
+-- and after a title is set in both
 on_air_alike : (within : List ℕ → Bool) (x y : World) (mount title : List ℕ) → AgreeWithin within x y
     → AgreeWithin within (on_air x mount title) (on_air y mount title)
 on_air_alike within x y mount title agree =
@@ -102,7 +109,7 @@ module _ (within : List ℕ → Bool) (w : World) (live : List Session) (seats :
     given_alike within seats w.seats s mount id,
   )
 
-  -- where its mount calls its listeners home, all is within reach
+  -- if its mount calls its listeners home, all is within reach
   begins : (id : ℕ) (mount : List ℕ) (shown : Shown) → ComesUpWithin w within mount → Agree (Begin id mount shown)
   begins id mount shown near = by_home (options_for w.station.settings mount).listeners.fallback_override refl where
     by_home : (home : Bool) → (options_for w.station.settings mount).listeners.fallback_override ≡ home → Agree (Begin id mount shown)
@@ -115,20 +122,27 @@ module _ (within : List ℕ → Bool) (w : World) (live : List Session) (seats :
     by_home true e = all_agree (near.home e) (Raise id mount shown)
     by_home false e = let given = heard_by_all id mount shown in rw e (record { station = refl; sessions = given.0; listeners = given.1 })
 
-  -- a block comes, and who is too far behind loses its seat
-  receives : (mount block : List ℕ) → within mount ≡ true → Agree (Receive mount block)
-  receives mount block near =
-      let longer = fed_alike within live w.station.live r mount block w.station.time in
-      let same = session_alike within (fed live mount block w.station.time) (fed w.station.live mount block w.station.time) longer mount near in
-      comes_alike within (block_received v mount block) (block_received w mount block) (laggards_ended (record v { station = received v.station mount block }) mount)
-      (laggards_ended (record w { station = received w.station mount block }) mount) (is_taken_in v mount block) (is_taken_in w mount block) (record {
+  -- each listener that is too far behind the end of the mount's stream loses its seat
+  laggards_alike : (mount : List ℕ) → within mount ≡ true → (one other : List Session) → SessionsDo within one other
+      → AgreeWithin within (laggards_ended (in_place w one seats) mount) (laggards_ended (in_place w other w.seats) mount)
+  laggards_alike mount near one other longer =
+      let same = session_alike within one other longer mount near in
+      record {
         station = refl;
         sessions = longer;
         listeners = rw same (with_ended_alike within seats w.seats s
-            (lags_behind mount (live_end (received w.station mount block) mount) w.station.settings.limits.queue_size) Lagged (none (live_end (received w.station mount block) mount)));
-      }) where
+            (lags_behind mount (end_in (session_of other mount)) w.station.settings.limits.queue_size) Lagged (none (end_in (session_of other mount))));
+      } where
         none : (end : ℕ) (seat : Seat) → within seat.mount ≡ false → lags_behind mount end w.station.settings.limits.queue_size seat ≡ false
         none end seat out = rw (beyond within seat.mount mount out near) refl
+
+  -- a block comes
+  receives : (mount block : List ℕ) → within mount ≡ true → Agree (Receive mount block)
+  receives mount block near =
+      comes_alike within (block_received v mount block) (block_received w mount block) (laggards_ended (record v { station = received v.station mount block }) mount)
+      (laggards_ended (record w { station = received w.station mount block }) mount) (is_taken_in v mount block) (is_taken_in w mount block)
+      (laggards_alike mount near (fed live mount block w.station.time) (fed w.station.live mount block w.station.time)
+      (fed_alike within live w.station.live r mount block w.station.time))
 
   -- a session ends, and its listeners walk on
   over : (mount : List ℕ) → SessionsDo within (session_over v mount).station.live (session_over w mount).station.live
@@ -149,7 +163,7 @@ module _ (within : List ℕ → Bool) (w : World) (live : List Session) (seats :
     listeners = without_alike within (session_ended v mount).seats (session_ended w mount).seats (walked mount near) id;
   }
 
-  -- those lose their seats at the mount whom its users do not let in
+  -- the listeners at the mount whom its users do not let in lose their seats
   outsiders_alike : (lists : Lists) (mount : List ℕ) → within mount ≡ true
       → ListenersDo within (with_ended seats (is_shut_out lists mount) ListenerPassword) (with_ended w.seats (is_shut_out lists mount) ListenerPassword)
   outsiders_alike lists mount near =
@@ -232,6 +246,40 @@ module _ (within : List ℕ → Bool) (w : World) (live : List Session) (seats :
   by_way event o (HasPassed ms past) near = unchanged
   by_way event o (Ticks ms past) near = all_agree near (Tick ms)
 
+  -- and where of each stream the last blocks are kept
+  kept_receives : (mount block : List ℕ) → within mount ≡ true → AgreeWithin within (kept_taken_in v mount block) (kept_taken_in w mount block)
+  kept_receives mount block near =
+      let queue = w.station.settings.limits.queue_size in
+      laggards_alike mount near (kept_fed queue live mount block w.station.time) (kept_fed queue w.station.live mount block w.station.time)
+      (kept_fed_alike within live w.station.live r queue mount block w.station.time)
+
+  kept_by_way : (event : Event) (o : Outcome) → Way w event o → ReachesWithin w within event
+      → AgreeWithin within (kept_changed v o.change) (kept_changed w o.change)
+  kept_by_way event o (Receives him mount block feeding) near = kept_receives mount block (near mount feeding)
+  kept_by_way event o way near = by_way event o way near
+
+  in_control : (event : Event) → IsWithinReach w within event → AgreeWithin within (control_after v event) (control_after w event)
+  in_control event near =
+      let other : (planned w event).change ≡ (outcome w event).change = ap (λ (o : Outcome). o.change) (planned_so w event) in
+      let one : (planned v event).change ≡ (outcome w event).change
+      = ap (λ (o : Outcome). o.change) (planned_so v event ∙ ap uncounted (outcome_alike within w live seats r s event near)) in
+      rw (one, other) (kept_by_way event (outcome w event) (way_of w event) near.reached)
+
+  -- who may draw in one may in the other
+  may_draw : (id : ℕ) → LastWithin w within id → MayDraw w id → MayDraw v id
+  may_draw id near may = record {
+    sits = λ seat has. standing_alike within w live seats r s id near ∙ may.sits seat (sym its ∙ has);
+    kept = λ seat has.
+        let his : seat_of w.seats id ≡ Some seat = sym its ∙ has in
+        rw (session_alike within live w.station.live r seat.mount (near seat.mount (sits_last w.seats id seat his))) (may.kept seat his);
+  } where
+    its : seat_of seats id ≡ seat_of w.seats id
+    its = ap seat_in (listener_same within seats w.seats s id near)
+
+  can_step : (event : Event) → IsWithinReach w within event → CanStep w event → CanStep v event
+  can_step (Draw id room) near can = may_draw id (near.client id refl) can
+  can_step event near can = can
+
   in_step : (event : Event) → IsWithinReach w within event
       → (reply_to v event ≡ reply_to w event) × AgreeWithin within (world_after v event) (world_after w event)
   unfolding reply_to world_after
@@ -244,3 +292,18 @@ answers_alike within v w event agree near =
     let is : v ≡ in_place w v.station.live v.seats = ap (λ (h : StationState). record { station = h; seats = v.seats }) agree.station in
     subst (λ (x : World). (reply_to x event ≡ reply_to w event) × AgreeWithin within (world_after x event) (world_after w event)) (sym is)
     (in_step within w v.station.live v.seats agree.sessions agree.listeners event near)
+
+-- a control agrees with another afterwards if it does before, on all that the event can reach
+pub controls_alike : (within : List ℕ → Bool) (v w : World) (event : Event) → AgreeWithin within v w → IsWithinReach w within event
+    → AgreeWithin within (control_after v event) (control_after w event)
+controls_alike within v w event agree near =
+    let is : v ≡ in_place w v.station.live v.seats = ap (λ (h : StationState). record { station = h; seats = v.seats }) agree.station in
+    subst (λ (x : World). AgreeWithin within (control_after x event) (control_after w event)) (sym is)
+    (in_control within w v.station.live v.seats agree.sessions agree.listeners event near)
+
+-- and it can step if the other can
+pub steps_alike : (within : List ℕ → Bool) (v w : World) (event : Event) → AgreeWithin within v w → IsWithinReach w within event
+    → CanStep w event → CanStep v event
+steps_alike within v w event agree near can =
+    let is : v ≡ in_place w v.station.live v.seats = ap (λ (h : StationState). record { station = h; seats = v.seats }) agree.station in
+    subst (λ (x : World). CanStep x event) (sym is) (can_step within w v.station.live v.seats agree.sessions agree.listeners event near can)

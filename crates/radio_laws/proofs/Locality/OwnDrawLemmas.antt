@@ -44,7 +44,7 @@ use Rattle.radio_laws.specs.OwnSteps.{PartStands, IsServersStep}
 use Rattle.radio_laws.specs.Parts.{seat_if, is_at, seat_at, IsPartOf, part_with_place}
 use Rattle.radio_laws.proofs.Locality.PartLemmas.{sits_there, parts_draw}
 
--- at a mount where nothing was delivered nothing is drawn
+-- if nothing was delivered at a mount, nothing is drawn there
 nothing_left : (place : ℕ) → drop {A = ℕ} place [] ≡ []
 nothing_left zero = refl
 nothing_left (suc n) = refl

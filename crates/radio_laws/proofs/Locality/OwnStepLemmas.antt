@@ -269,7 +269,7 @@ module _ (core w : World) (for : StandsFor core w) where
   own_step p stands (RelayDown id) reply is = cc
   own_step p stands (Clock ms) reply is = cc
 
-  -- and it does answer who feeds the mount, and who sits there
+  -- and it does answer the source of the mount, and the listeners there
   feeds_here : (p : MountPart) → PartStands w p → (id : ℕ) → standing_of w id ≡ Feeds p.mount → is_fed_by id p ≡ true
   feeds_here p stands id feeds =
       let fed = s.feeds id p.mount feeds in

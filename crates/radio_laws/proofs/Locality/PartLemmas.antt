@@ -39,7 +39,7 @@ use Rattle.radio_parts.proofs.DrawLemmas.{hands_out_at, draws_so}
 use Rattle.radio_laws.specs.Parts.{seat_if, is_at, seat_at, IsPartOf, part_with_place, is_mount_of, IsPartsStep, DrawsByItsPart}
 use Rattle.radio_laws.proofs.Locality.LeftAlone.{left_alone}
 
--- who keeps its seat when those lose theirs of whom this holds
+-- the listeners that keep their seats, when those lose theirs of which p holds
 module _ (p : Seat → Bool) where
   others_keep : (seats : List Listener) (id : ℕ) → seat_of (with_ended seats p Lagged) id ≡ seat_if (λ seat. not (p seat)) (seat_of seats id)
   others_keep seats id = ap seat_in (have_ended p Lagged seats id) ∙ by_listener (listener_of seats id) where
@@ -69,13 +69,13 @@ in_turn p q (Some seat) = picked p (q seat) ∙ swapped (q seat) (p seat) ∙ sy
   swapped false true = refl
   swapped false false = refl
 
--- who keeps up, of those who sit there
+-- the listeners at the mount that keep up
 pub those_kept : (mount : List ℕ) (p : Seat → Bool) (listeners : List Listener) (id : ℕ)
     → seat_at mount (with_ended listeners p Lagged) id ≡ seat_if (λ seat. not (p seat)) (seat_at mount listeners id)
 those_kept mount p listeners id =
     ap (seat_if (is_at mount)) (others_keep p listeners id) ∙ in_turn (is_at mount) (λ seat. not (p seat)) (seat_of listeners id)
 
--- who sits there has that seat
+-- a listener at the mount has that seat
 pub sits_there : (mount : List ℕ) (listeners : List Listener) (id : ℕ) (seat : Seat) → seat_at mount listeners id ≡ Some seat
     → (seat_of listeners id ≡ Some seat) × (is_at mount seat ≡ true)
 sits_there mount listeners id seat has = by_seat (seat_of listeners id) refl has where

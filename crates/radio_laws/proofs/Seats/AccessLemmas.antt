@@ -169,7 +169,7 @@ within_both stream burst queue place within = record {
   earliest = λ other at near also. within.earliest other at (omega (arith, near, also));
 }
 
--- the interval is that of the mount, where metadata were asked for
+-- the interval is that of the mount, if the listener asked for metadata
 interval_asked : (station : StationState) (mount : List ℕ) (wants : Bool) → wants ≡ true
     → interval_for station mount wants ≡ Some (options_for station.settings mount).stream.mp3_metadata_interval
 interval_asked station mount wants e = rw e refl

@@ -1,4 +1,4 @@
--- where a listener sat last
+-- the last mount of a listener
 use Rattle.std.proofs.Common.{◌++◌, ◌≡◌, Bool, true, false, ℕ, ◌==◌, Option, Some, None, List, [], ◌∷◌, refl, ap, sym, subst, ◌∙◌}
 use Rattle.std.specs.Prelude.{if◌then◌else◌, fold, nat_lt}
 use Rattle.std.specs.Option.{option_map}
@@ -42,7 +42,7 @@ use Rattle.radio_laws.proofs.Seats.TableSteps.{TableStep, IsUntouched, AreEnded,
 use Rattle.radio_laws.proofs.Seats.TableSteps.{IsGone, SourceIsGone, HasTicked, table_step}
 use Rattle.radio_laws.specs.LastMounts.{IsLastWhereHeSits, FinishedWhereHeSat, EndedByClockWhereTheySat, FinishedRowsStay}
 
--- who has no seat is left alone by the ends of sessions
+-- the ends of sessions leave a listener without a seat alone
 none_silenced : (sessions : List Session) (during : World) → AreByNumber during.seats → (id : ℕ) → seat_of during.seats id ≡ None
     → listener_of (fold session_silenced during sessions).seats id ≡ listener_of during.seats id
 none_silenced [] during order id none = refl
@@ -51,14 +51,14 @@ none_silenced (session ∷ sessions) during order id none =
     let same = none_changed _ _ (step_carried during.seats id (sight_of over.station) (Ended session.mount) order) none in
     none_silenced sessions (session_silenced during session) (order_carried over (Ended session.mount) order) id (ap seat_in same ∙ none) ∙ same
 
--- who does not sit has no seat
+-- a client that is no seated listener has no seat
 pub seatless : (w : World) → IsSound w → (id : ℕ) → (standing_of w id ≡ Sits → ⊥) → seat_of w.seats id ≡ None
 seatless w s id elsewhere = by_seat (seat_of w.seats id) refl where
   by_seat : (found : Option Seat) → seat_of w.seats id ≡ found → seat_of w.seats id ≡ None
   by_seat None none = none
   by_seat (Some seat) has = absurd (elsewhere (s.sitting id seat has))
 
--- what an event makes of the row of one who is a listener already: the clock does several things, one after another
+-- what an event makes of the row of a client that is a listener already: the clock does several things, one after another
 data EventStep (w : World) (event : Event) (id : ℕ) (later : List Listener) : Type 0 where
   AtOnce : RowStep (listener_of w.seats id) (listener_of later id) → EventStep w event id later
   Leaves : Leaving w id event → EventStep w event id later
@@ -196,7 +196,7 @@ ended_by_clock w s ms = record {
       ap (λ (later : World). last_mount_of later.seats id) (ticks w ms now) ∙ left_by w s ms (Clock ms) move before refl brings id seat has none;
 }
 
--- who was finished stays where it sat last
+-- a finished listener keeps its last mount
 pub rows_stay : (w : World) → IsSound w → (event : Event) → FinishedRowsStay w event
 rows_stay w s event id rule over stays = by_step (event_step w s id (λ peer e. cc) event) where
   none : seat_of w.seats id ≡ None

@@ -1,4 +1,4 @@
--- in every state of a run, no more sit at a mount than may, and nobody sits twice where each may sit once
+-- In every state of a run, no more sit at a mount than may. No user sits twice at a mount that allows each user once.
 use Rattle.std.proofs.Common.{◌≡◌, Bool, true, false, ℕ, ◌<◌, ◌≤◌, ◌==◌, ◌&&◌, not, Option, Some, None, List, [], ◌∷◌, length, refl, ap}
 use Rattle.std.proofs.Common.{sym, subst, ◌∙◌, arith}
 use Rattle.std.proofs.lemmas.Bool.Decides.{nat_tests}
@@ -81,7 +81,7 @@ not_true_at : (b : Bool) → not b ≡ true → b ≡ false
 not_true_at true e = cc
 not_true_at false e = refl
 
--- who may sit down is no user who sits there
+-- if a listener may sit down, its user does not sit there
 not_there : (allows : Bool) (seats : List Listener) (mount user : List ℕ) (pair : Option Credentials) → allows ≡ false
     → (not allows && sits_already seats mount pair) ≡ false
     → has_user user pair ≡ true → sits_there seats mount user ≡ false
@@ -100,7 +100,7 @@ module _ (w : World) (move : Move) (order : AreByNumber w.seats) (l : Within w) 
         once user id other his theirs;
   }
 
--- the limits hold of the station's settings and of who sits, whatever else there is
+-- the limits depend on the station's settings and the seats alone
 pub other_station : (w later : World) → later.station.settings ≡ w.station.settings → later.seats ≡ w.seats → Within w → Within later
 other_station w later settings seats l = record {
   not_too_many = λ mount most e.
@@ -132,7 +132,7 @@ within_silence (session ∷ sessions) w order l =
     within_silence sessions (session_silenced w session) (order_carried (session_over w session.mount) (SessionEnds session.mount) order)
     (other_station ended (session_silenced w session) refl refl (within_ended w session.mount order l))
 
--- where nobody has come, the limits hold still
+-- if nobody has sat down, the limits still hold
 within_kept : (w later : World) → Within w → later.station.settings ≡ w.station.settings → NobodyCame w.seats later.seats → Within later
 within_kept w later l same came = record {
   not_too_many = λ mount most e.
@@ -151,11 +151,11 @@ module _ (w : World) (s : IsSound w) (l : Within w) where
   within_still : (later : World) → later.station.settings ≡ w.station.settings → NobodyCame w.seats later.seats → Within later
   within_still later same came = within_kept w later l same came
 
-  -- nor do they come who have sat out their time
+  -- nor does anybody come when listeners have sat out their time
   pub within_sat_out : (ms : ℕ) → Within (before_silence w ms)
   within_sat_out ms = within_still (before_silence w ms) refl (nobody_came_ending (has_sat_out w.station.settings ms) TimeOver w.seats)
 
-  -- a listener sits down where it is welcome
+  -- a listener sits down at a mount that admits it
   module _ (asked : ListenRequest) (peer : Peer) (session : Session) (e : standing_of w asked.id ≡ Undecided peer)
       (live : heard_at w.station session.mount ≡ Some session) (welcome : MaySit (sight_of w.station) w.seats asked.pair session.mount) where
     abbrev new : Seat

@@ -1,4 +1,4 @@
--- who has arrived passes the address lists, and who sits is let in by the users of its mount
+-- A client that has arrived passes the address lists. A listener that sits at a mount is let in by its users.
 use Rattle.std.proofs.Common.{◌≡◌, ◌⊎◌, inl, inr, true, ℕ, ◌+◌, ◌<◌, Option, Some, List, [], ◌∷◌, length, refl, ap, sym, subst, ◌∙◌}
 use Rattle.radio_addr.specs.declared.peer.Peer.{Peer}
 use Rattle.radio_policy.specs.declared.rule.Rule.{Rule}
@@ -48,7 +48,7 @@ pub record KeepsLists (w : World) : Type 0 where
   pub seated : (id : ℕ) (seat : Seat) → seat_of w.seats id ≡ Some seat → IsLetIn w.station.lists seat
 
 module _ (w : World) (s : IsSound w) (k : KeepsLists w) where
-  -- who has a seat after an event at which the lists stay had it before, or has just sat down where it is let in
+  -- a listener with a seat after an event that leaves the lists had it before, or has just sat down at a mount that lets it in
   seated_by : (C : Rule → Type 0) (event : Event) (id : ℕ) (before : Option Seat) (bytes : List ℕ) (later : Option Seat)
       → SeatStep w C event id before bytes later → (world_after w event).station.lists ≡ w.station.lists → seat_of w.seats id ≡ before → (seat : Seat)
       → later ≡ Some seat → IsLetIn w.station.lists seat
@@ -80,7 +80,7 @@ module _ (w : World) (s : IsSound w) (k : KeepsLists w) where
   arrived_before id peer (inl before) = k.arrived id peer before
   arrived_before id peer (inr new) = new.1
 
-  -- where a command has changed the users of a mount, nobody sits there whom they do not let in
+  -- after a command has changed the users of a mount, nobody sits there whom they do not let in
   module _ (event : Event) (him : ℕ) (mount : List ℕ) (change : UserList → UserList)
       (is_later : world_after w event ≡ outsiders_ended (with_lists (answered w him) (with_changed w.station.lists mount change)) mount) where
     abbrev now : Lists
@@ -123,6 +123,6 @@ lists_run settings lists events = lists_after_all (opening settings lists) (soun
   seated = λ id seat e. cc;
 }) events
 
--- so nobody sits whom the users of its mount, as they are now, do not let in
+-- so the present users of its mount let in each listener that sits there
 pub sitters_run : (settings : Settings) (lists : Lists) (events : List Event) → SittersAreLetIn (run_after settings lists events)
 sitters_run settings lists events id seat has = ((lists_run settings lists events).seated id seat has).accepted

@@ -1,4 +1,4 @@
--- who keeps a seat keeps its mount
+-- a listener that keeps its seat keeps its mount
 use Rattle.std.proofs.Common.{◌≡◌, ◌⊎◌, inl, inr, ℕ, ◌+◌, ◌≤◌, Option, Some, None, List, [], length, refl, ap, sym, subst, ◌∙◌, arith}
 use Rattle.radio_policy.specs.declared.rule.Rule.{Rule}
 use Rattle.radio_events.specs.declared.event.Event.{Event}
@@ -19,8 +19,8 @@ use Rattle.radio_core.proofs.Seats.SeatSteps.{seats_step}
 use Rattle.radio_parts_station.specs.Waiting.{heard_at}
 use Rattle.radio_parts.proofs.HeardLemmas.{heard_live}
 
--- a kept seat is the same but for its place, which does not go back. Or a session begins where it waited for one,
--- or a move has taken it to the end of a stream
+-- A kept seat is the same, except for its place, which does not go back. Or a session begins for which it waited,
+-- or a move takes it to the end of a stream.
 abbrev Kept : World → Event → ℕ → Seat → Seat → Session → Type 0
 Kept w event id old seat session = ((seat ≡ record old { place = seat.place }) × (old.place ≤ seat.place))
     ⊎ (ComesUpOn event old.mount × (session_of w.station.live old.mount ≡ None) × (session.stream.bytes ≡ [])

@@ -40,7 +40,7 @@ fed_by (relay ∷ relays) mount e = by_first (fed_by relays mount) (first_or_oth
   by_first rest (inl his) = (relay, inl refl, his.1, his.0)
   by_first rest (inr later) = let other = rest later in (other.0, inr other.1, other.2, other.3)
 
--- and where all do so that feed it, the first one does
+-- and if all relays that feed it do so on demand, the first one does
 feeds : (relays : List RelaySetting) (mount : List ℕ) (relay : RelaySetting) → Has relay relays → relay.local_mount ≡ mount
     → ((other : RelaySetting) → Has other relays → other.local_mount ≡ mount → other.on_demand ≡ true) → feeds_on_demand relays mount ≡ true
 feeds [] mount relay has name all = absurd has
@@ -107,7 +107,7 @@ had_or_is (first ∷ names) name other has = by_order (had_or_is names name othe
   by_order rest Greater (inl same) = inl (inl same)
   by_order rest Greater (inr had) = later (rest had)
 
--- as many sit at a mount as one or more exactly where one does
+-- if at least one listener is counted at a mount, one sits there
 sat_at : (seats : List Listener) (mount : List ℕ) → nat_lt 0 (count_at seats mount) ≡ true → IsSatAt seats mount
 sat_at [] mount e = cc
 sat_at (listener ∷ seats) mount e = by_seating (sat_at seats mount) listener.seating refl e where

@@ -25,17 +25,17 @@ pub data RowStep (before later : Option Listener) : Type 0 where
   IsSame : later ≡ before → RowStep before later
   -- it had a seat, and has one
   SitsOn : (seat now : Seat) → seat_in before ≡ Some seat → seat_in later ≡ Some now → RowStep before later
-  -- it had a seat, and has lost it where it sat
+  -- it had a seat, and has lost it at that mount
   LosesIt : (seat : Seat) (rule : Rule) (number : ℕ) → seat_in before ≡ Some seat
       → later ≡ Some (record { id = number; seating = HasLostIt rule seat.mount }) → RowStep before later
 
--- so who has no seat is left alone
+-- so a listener without a seat is left alone
 pub none_changed : (before later : Option Listener) → RowStep before later → seat_in before ≡ None → later ≡ before
 none_changed before later (IsSame same) none = same
 none_changed before later (SitsOn seat now had sits) none = let both : None ≡ Some seat = sym none ∙ had in cc
 none_changed before later (LosesIt seat rule number had lost) none = let both : None ≡ Some seat = sym none ∙ had in cc
 
--- and who is left without a seat sat last where it had it
+-- and the last mount of a listener that has lost its seat is the one of that seat
 pub last_at : (before later : Option Listener) → RowStep before later → (seat : Seat) → seat_in before ≡ Some seat → seat_in later ≡ None
     → option_map (λ listener. last_mount listener.seating) later ≡ Some seat.mount
 last_at before later (IsSame same) seat has none = let both : None ≡ Some seat = sym none ∙ ap seat_in same ∙ has in cc

@@ -1,4 +1,4 @@
--- who sits at a mount goes on there when its session ends, where one may sit there still
+-- a listener at a mount goes on there when its session ends, if a listener may still sit there
 use Rattle.std.proofs.Common.{◌≡◌, Bool, true, false, ℕ, ◌+◌, ◌<◌, ◌≤◌, ◌==◌, inl, inr, Option, Some, None, List, [], ◌∷◌, not, refl, ap, sym, ◌∙◌}
 use Rattle.std.proofs.Common.{arith}
 use Rattle.std.specs.Prelude.{◌&&◌, filter, map, nat_lt, if◌then◌else◌}
@@ -155,7 +155,7 @@ module _ (sight : Sight) (mount : List ℕ) (seats : List Listener) (order : Are
     order_then : AreByNumber then_seats
     order_then = same_order seats then_seats none_came.same order
 
-    -- one who is left when it is taken out is another
+    -- each listener that is left after it is taken out is another one
     not_himself : (other : Listener) → listener_of others other.id ≡ Some other → other.id ≡ id → {A : Type 0} → A
     not_himself other found same =
         let none : listener_of others other.id ≡ None = ap (listener_of others) same ∙ is_no_listener then_seats id in cc

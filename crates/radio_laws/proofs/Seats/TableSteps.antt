@@ -45,24 +45,24 @@ use Rattle.radio_laws.specs.Gone.{Leaving, AsClient, AsRelay}
 pub data TableStep (w : World) (event : Event) : List Listener → Type 0 where
   -- it is as it was
   IsUntouched : TableStep w event w.seats
-  -- those lose their seats of whom the test holds
+  -- the listeners of which the test holds lose their seats
   AreEnded : (p : Seat → Bool) (rule : Rule) → TableStep w event (with_ended w.seats p rule)
   -- one loses its seat
   IsEnded : (him : ℕ) (rule : Rule) → TableStep w event (with_end w.seats him rule)
   -- a move carries listeners, in a station of the same settings
   AreCarried : (station : StationState) (move : Move) → station.settings ≡ w.station.settings → TableStep w event (carried (sight_of station) move w.seats).seats
-  -- those at the mount are given a session that has begun there, and then others are called home, where it calls them
+  -- the listeners at the mount get a session that has begun there; then others are called home, if the mount calls them
   AreGiven : (station : StationState) (mount : List ℕ) (session : ℕ) → station.settings ≡ w.station.settings
       → TableStep w event (called_home (world station (with_session_at w.seats mount session)) mount).seats
-  -- one sits down where its walk lands
+  -- a listener sits down at the mount at which its walk lands
   SitsDown : (asked : ListenRequest) (peer : Peer) (session : Session) → standing_of w asked.id ≡ Undecided peer
       → walks_to w.station w.seats asked.mount asked.pair ≡ Lands session.mount → heard_at w.station session.mount ≡ Some session
       → TableStep w event (with_seat w.seats asked.id (first_seat w.station asked peer session))
   -- a listener gets data, and its place moves on
   IsHanded : (him place : ℕ) (seat : Seat) → seat_of w.seats him ≡ Some seat → TableStep w event (with_place w.seats him place)
-  -- one who leaves has no row any more
+  -- a listener that leaves has no row any more
   IsGone : (him : ℕ) → Leaving w him event → TableStep w event (without_listener w.seats him)
-  -- the session of a source who leaves has ended, and it has no row either
+  -- the session of a source that leaves has ended, and the source has no row either
   SourceIsGone : (him : ℕ) (mount : List ℕ) → Leaving w him event → TableStep w event (without_listener (session_ended w mount).seats him)
   -- the clock ends seats, and then sessions, one after another
   HasTicked : (ms : ℕ) → event ≡ Clock ms → TableStep w event (ticked w ms).seats

@@ -1,4 +1,4 @@
--- where a walk ends, and by which mounts it comes
+-- the mount at which a walk ends, and the mounts on its way
 use Rattle.std.proofs.Common.{◌≡◌, ℕ, zero, suc, ◌+◌, ◌<◌, Bool, true, false, ◌&&◌, ◌||◌, not, is_some, Option, Some, None, List, length}
 use Rattle.std.proofs.Common.{refl, subst, arith}
 use Rattle.std.specs.Prelude.{if◌then◌else◌}
@@ -45,7 +45,7 @@ falls_back w mount next e = by_found (set_for w.station.fallbacks mount) refl e 
   by_found None none goes = ByTheSettings goes none
   by_found (Some set) found goes = ByACommand set found goes
 
--- where they fall back to none, there is none
+-- if they fall back to no mount, it has no fallback
 pub falls_nowhere : (w : World) (mount : List ℕ) → ((next : List ℕ) → FallsBack w mount next → ⊥) → fallback_of w.station mount ≡ None
 falls_nowhere w mount nowhere = by_fallback (fallback_of w.station mount) refl where
   by_fallback : (fallback : Option (List ℕ)) → fallback_of w.station mount ≡ fallback → fallback_of w.station mount ≡ None
@@ -101,7 +101,7 @@ module _ (w : World) (pair : Option Credentials) where
     pub walk_ends : WalkEnds 10 (walks_to w.station w.seats asked pair)
     walk_ends = subst (λ (l : Landing). WalkEnds 10 l) (walks_ten sight w.seats pair asked) (ends_by 10 0 asked AtFirst)
 
--- where a walk lands, it has come within ten mounts
+-- a walk that lands has looked at no more than ten mounts
 lands_by : (w : World) (pair : Option Credentials) (asked : List ℕ) (l : Landing) → WalkEnds w pair asked 10 l → (to : List ℕ) → l ≡ Lands to
     → (steps : ℕ) × (steps < 10) × ComesBy w asked steps to
 lands_by w pair asked l (LandsThere steps there low comes none) to e =

@@ -65,7 +65,7 @@ found_there : {A : Type 0} (found : Option A) → is_some found ≡ true → (x 
 found_there None e = cc
 found_there (Some x) e = (x, refl)
 
--- the limits hold, and nobody sits where it is not let in
+-- the limits hold, and no listener sits at a mount that does not let it in
 abbrev AreInPlace : World → Type 0
 AreInPlace w = Within w × SittersAreLetIn w
 
@@ -135,7 +135,7 @@ module _ (before : World) (move : Move) (order : AreByNumber before.seats) (plac
         ap (λ (m : Move). his_turn before m id) same ∙ waits_on before mount order (place mount same) id seat has there on_demand;
   }
 
--- a move leaves nobody where it is not let in
+-- a move leaves no listener at a mount that does not let it in
 let_in_ended : (w : World) (mount : List ℕ) → SittersAreLetIn w → SittersAreLetIn (session_ended w mount)
 let_in_ended w mount all id seat has =
     by_way (had_seats (sight_of (session_over w mount).station) (Ended mount) w.seats id seat has) where

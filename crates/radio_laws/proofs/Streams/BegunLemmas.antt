@@ -1,4 +1,4 @@
--- what holds of each session where one has begun
+-- what holds of each session after one has begun
 use Rattle.std.proofs.Common.{◌≡◌, ℕ, ◌+◌, Some, None, List, refl, ap, sym, subst, ◌∙◌, arith}
 use Rattle.radio_addr.specs.declared.peer.Peer.{Peer}
 use Rattle.radio_values.specs.declared.field.Shown.{Shown}
@@ -20,7 +20,7 @@ use Rattle.radio_seats_rows.specs.Seats.{with_session_at}
 
 module _ (w : World) (s : IsSound w) (P : Session → Type 0)
     (old : (mount : List ℕ) (session : Session) → session_of w.station.live mount ≡ Some session → P session) where
-  -- those who are called home change no session
+  -- listeners that are called home change no session
   begins_so : (him : ℕ) (there : List ℕ) (shown : Shown) (station : StationState) → station.live ≡ with_session w.station.live (opened there him shown w.station.time)
       → Turns w (record w { station = station }) him (Feeds there) → session_of w.station.live there ≡ None → P (opened there him shown w.station.time)
       → (mount : List ℕ) (session : Session)

@@ -65,12 +65,12 @@ module _ (w : World) (s : IsSound w) where
   untitled : (event : Event) (id : ℕ) → of_client {A = List ℕ} event id [] ≡ []
   untitled event id = nothing_of event id [] refl
 
-  -- whose connection is closed sets no title by it
+  -- the closing of a connection sets no title
   closes_untitled : (him : ℕ) (event : Event) → Closes w him event → title_of_event event ≡ []
   closes_untitled him event (OfClient no_relay) = refl
   closes_untitled him event (OfRelay relay) = refl
 
-  -- who is shown something of the station sets none
+  -- a listing or page that is shown sets none
   long_sets_none : (event : Event) (text : ReplyText) → (IsShort text → ⊥) → (asker id : ℕ) → sets w event (says (SaysText text) (Answer asker)) id ≡ []
   long_sets_none event Done long asker id = absurd (long tt)
   long_sets_none event (Moved count) long asker id = untitled event id

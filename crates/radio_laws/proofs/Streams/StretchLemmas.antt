@@ -53,7 +53,7 @@ begun_none : (old seat : Seat) → old.session ≡ seat.session → begun_sittin
 begun_none old seat same = let itself : (old.session == seat.session) ≡ true =
     grind (arith, nat_tests) in begun_same old seat (old.session == seat.session) refl itself
 
--- what comes next for one who has this seat, or none: a slice from its place, or nothing
+-- the next data of a listener: a slice from the place of its seat, or nothing without a seat
 abbrev IsNext : (ℕ → List ℕ) → Option Seat → List ℕ → Type 0
 IsNext sent None bytes = bytes ≡ []
 IsNext sent (Some seat) bytes = IsSlice sent (sitting_of_seat seat) bytes
@@ -124,7 +124,7 @@ module _ (w : World) (s : IsSound w) (sent more : ℕ → List ℕ) (whole : (mo
   cut_step event C id before later bytes (HeIsEnded seat rule cause) has others cut h =
       (subst (IsSlice all (sitting_of_seat seat)) (sym h.0) (nothing_first id seat has), h.1)
 
-  -- where nothing happens any more
+  -- if nothing happens any more
   nothing_next : (id : ℕ) (seat : Option Seat) → seat_of w.seats id ≡ seat → IsNext all seat []
   nothing_next id None has = refl
   nothing_next id (Some seat) has = nothing_first id seat has

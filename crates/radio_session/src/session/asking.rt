@@ -1,4 +1,4 @@
-//! What a request asks of the server.
+//! The event that a request means.
 
 ghost use Rattle.std.specs.Prelude.{◌≡◌, IfOk};
 ghost use Rattle.radio_session.specs.Asking.{about_by, named_by, pair_of, value_or, shown_by, wants_metadata, path_in, query_in};
@@ -16,13 +16,13 @@ use radio_heads::{DEFAULT_CONTENT_TYPE, Head};
 use radio_values::{About, Shown};
 use std::alloc::Global;
 
-/// The path of what Icecast answers of the mounts that everybody may see.
+/// The path of Icecast's status of the mounts that everybody may see.
 const ICECAST_STATUS: &[u8] = b"/status-json.xsl";
 
-/// What the paths of commands begin with.
+/// The prefix of the paths of commands.
 const COMMANDS: &[u8] = b"/admin/";
 
-/// The event of a client who asks to feed the mount of its head's path. `OutOfMemory` if memory
+/// Returns the event of a client that asks to feed the mount of its head's path. `OutOfMemory` if memory
 /// was refused.
 pub(crate) fn asks_to_feed(alloc: Global, id: u64, head: &Head) -> Result<Event, OutOfMemory>
     ensures { IfOk result (λ event. event ≡ asks_to_feed id head.now) }
@@ -39,8 +39,8 @@ pub(crate) fn asks_to_feed(alloc: Global, id: u64, head: &Head) -> Result<Event,
     Ok(Event::Source(Boxed::new(alloc, request)?))
 }
 
-/// Returns the event of a client that sends a GET. It is a command if the path begins with `/admin/`
-/// or is that of the status, and else a request to hear the mount of the path. `OutOfMemory` if memory
+/// Returns the event of a GET. It is a command if the path begins with `/admin/` or is that of the
+/// status. Else it is a request to listen to the mount of the path. `OutOfMemory` if memory
 /// was refused.
 pub(crate) fn asks_by_get(
     alloc: Global,
@@ -58,14 +58,14 @@ pub(crate) fn asks_by_get(
     }
 }
 
-/// Whether a path is one of commands, or that of what everybody may see of the station.
+/// Returns whether this is a path of commands, or the path of the status that everybody may see.
 fn is_for_commands(path: &[u8]) -> bool
     ensures { result ≡ is_for_commands path.now }
 {
     path.starts_with(COMMANDS) || path == CommandKind::Status.path().as_bytes()
 }
 
-/// Returns the event of a client that asks to hear the mount of this path. `OutOfMemory` if memory
+/// Returns the event of a client that asks to listen to the mount of this path. `OutOfMemory` if memory
 /// was refused.
 fn asks_to_hear(
     alloc: Global,
@@ -88,7 +88,8 @@ fn asks_to_hear(
     Ok(Event::Listen(Boxed::new(alloc, request)?))
 }
 
-/// What a page may say of the server to a client that asks for this path. `OutOfMemory` if memory was refused.
+/// Returns what a page needs to know of a client that asks for this path: the host that it named, and when the server started.
+/// `OutOfMemory` if memory was refused.
 fn visit_for(
     alloc: Global,
     web: WebAnswers,
@@ -103,7 +104,7 @@ fn visit_for(
     })
 }
 
-/// Returns the host by which the client calls the server, if it asks for the status, which has full
+/// Returns the host by which the client calls the server, if it asks for the status, which shows full
 /// addresses.
 fn host_for<'b>(path: &[u8], head: &Head<'b>) -> &'b [u8]
     ensures { result.now ≡ host_for path.now head.now }
@@ -115,7 +116,7 @@ fn host_for<'b>(path: &[u8], head: &Head<'b>) -> &'b [u8]
     }
 }
 
-/// The event of a client who gives the command of this path. `OutOfMemory` if memory was refused.
+/// Returns the event of a client that gives the command of this path. `OutOfMemory` if memory was refused.
 fn gives_command(
     alloc: Global,
     web: WebAnswers,
@@ -131,8 +132,8 @@ fn gives_command(
     Ok(Event::Command(Boxed::new(alloc, request)?))
 }
 
-/// The pair that counts for what is asked: none where a page of another site may have sent a change. `OutOfMemory` where
-/// memory was refused.
+/// Returns the pair that counts for this request. There is none if it is a change that the page of another site may have sent,
+/// unless the settings allow such commands. `OutOfMemory` if memory was refused.
 fn pair_for(
     alloc: Global,
     web: WebAnswers,
@@ -147,7 +148,7 @@ fn pair_for(
     pair_of(alloc, head)
 }
 
-/// Returns the path of a head's target, percent decoded. `OutOfMemory` if memory was refused.
+/// Returns the percent-decoded path of a head's target. `OutOfMemory` if memory was refused.
 fn path_in(alloc: Global, head: &Head) -> Result<Bytes, OutOfMemory>
     ensures { IfOk result (λ path. path ≡ path_in head.now) }
 {
@@ -155,7 +156,7 @@ fn path_in(alloc: Global, head: &Head) -> Result<Bytes, OutOfMemory>
     Bytes::copy_from_slice(alloc, path.as_slice())
 }
 
-/// The query behind it; if there is none, an empty one.
+/// Returns the query of a head's target, or an empty one if it has none.
 fn query_in<'b>(head: &Head<'b>) -> &'b [u8]
     ensures { result.now ≡ query_in head.now }
 {
@@ -165,7 +166,7 @@ fn query_in<'b>(head: &Head<'b>) -> &'b [u8]
     }
 }
 
-/// The user and the password that a head sends, if its `Authorization` has them (RFC 7617).
+/// Returns the user and the password of a head, if its `Authorization` has them (RFC 7617).
 /// `OutOfMemory` if memory was refused.
 fn pair_of(alloc: Global, head: &Head) -> Result<Option<Pair>, OutOfMemory>
     ensures { IfOk result (λ pair. pair ≡ pair_of head.now) }
@@ -184,7 +185,7 @@ fn shown_by(alloc: Global, head: &Head) -> Result<Shown, OutOfMemory>
     Ok(shown.with_about(about_by(alloc, head)?))
 }
 
-/// Its type, name and genre, cleaned. `OutOfMemory` if memory was refused.
+/// Returns the type, name and genre of a source's head, cleaned. `OutOfMemory` if memory was refused.
 fn named_by(alloc: Global, head: &Head) -> Result<Shown, OutOfMemory>
     ensures { IfOk result (λ shown. shown ≡ named_by head.now) }
 {
@@ -194,7 +195,7 @@ fn named_by(alloc: Global, head: &Head) -> Result<Shown, OutOfMemory>
     Shown::clean(alloc, content_type, name, genre)
 }
 
-/// Returns what else it says of its stream, cleaned. `OutOfMemory` if memory was refused.
+/// Returns the description, URL, bit rate and audio parameters of a source's head, cleaned. `OutOfMemory` if memory was refused.
 fn about_by(alloc: Global, head: &Head) -> Result<About, OutOfMemory>
     ensures { IfOk result (λ about. about ≡ about_by head.now) }
 {
@@ -205,14 +206,14 @@ fn about_by(alloc: Global, head: &Head) -> Result<About, OutOfMemory>
     About::clean(alloc, description, url, bitrate, audio_info)
 }
 
-/// Whether a listener wants metadata between the data (ICY convention).
+/// Returns whether a listener wants metadata between the data (ICY convention).
 fn wants_metadata(head: &Head) -> bool
     ensures { result ≡ wants_metadata head.now }
 {
     is_word(head.value("Icy-MetaData"), b"1")
 }
 
-/// The value of a header, or the other if there is no such header; an empty value is one.
+/// Returns the value of a header, or `other` if the head has no such header. An empty value counts as a value.
 fn value_or<'b>(other: &'static [u8], name: &str, head: &Head<'b>) -> &'b [u8]
     ensures { result.now ≡ value_or other.now name.now head.now }
 {

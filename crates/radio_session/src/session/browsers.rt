@@ -1,4 +1,4 @@
-//! Commands that a browser may give for the page of another site.
+//! Commands that a browser may send for the page of another site.
 
 ghost use Rattle.std.specs.Prelude.{◌≡◌, not};
 ghost use Rattle.std.specs.Option.{option_copied};
@@ -9,14 +9,15 @@ use crate::WebAnswers;
 use radio_events::{Asked, Command};
 use radio_heads::Head;
 
-/// Whether the pair of this request does not count: it asks for a change, and the page of another site may have sent it.
+/// Returns whether the pair of this request does not count. This is so if it asks for a change that the page of another site may
+/// have sent, unless the settings allow such commands.
 pub(super) fn is_refused_pair(web: WebAnswers, head: &Head, asked: &Asked) -> bool
     ensures { result ≡ is_refused_pair web head.now asked.now }
 {
     !web.browser_commands && is_change(asked) && may_be_forged(head)
 }
 
-/// Whether something other than a title changes.
+/// Returns whether this is a command that changes something other than a title.
 fn is_change(asked: &Asked) -> bool
     ensures { result ≡ is_change asked.now }
 {
@@ -32,14 +33,15 @@ fn is_title(command: &Command) -> bool
     matches!(command, Command::SetTitle { .. })
 }
 
-/// Whether the page of another site may have sent it.
+/// Returns whether the page of another site may have sent the request.
 fn may_be_forged(head: &Head) -> bool
     ensures { result ≡ may_be_forged head.now }
 {
     is_other_site(is_from_browser(head), head.value("Sec-Fetch-Site"))
 }
 
-/// Whether this site, as a browser names it, is another one.
+/// Returns whether the site that a browser names is another one. If it names none, any request of a browser counts as another
+/// site's.
 fn is_other_site(from_browser: bool, site: Option<&[u8]>) -> bool
     ensures { result ≡ is_other_site from_browser (option_copied site.entry) }
 {
@@ -55,7 +57,7 @@ fn is_own_site(site: &[u8]) -> bool
     site == b"same-origin".as_slice() || site == b"none".as_slice()
 }
 
-/// Whether a browser has sent it: for a page, or for its user.
+/// Returns whether a browser sent the request: for a page, whose origin it names, or for its user, whose language it names.
 fn is_from_browser(head: &Head) -> bool
     ensures { result ≡ is_from_browser head.now }
 {

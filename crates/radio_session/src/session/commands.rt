@@ -1,4 +1,4 @@
-//! What the path of a command and its arguments ask of the server.
+//! What the path of a command and its arguments ask for.
 
 ghost use Rattle.std.specs.Prelude.{◌≡◌, IfOk};
 ghost use Rattle.radio_admin.specs.declared.command.Command.{Command as ReadOf};
@@ -11,11 +11,15 @@ use radio_events::{Asked, Command, Listing, OpenedBy};
 use radio_values::{MountName, Title};
 use std::alloc::{AllocError, Global};
 
-/// What a decoded path, and the query behind it, ask for. `OutOfMemory` if memory was
+/// Returns what a decoded path and its query ask for. `OutOfMemory` if memory was
 /// refused.
 pub(super) fn asked_in(alloc: Global, path: &[u8], query: &[u8]) -> Result<Asked, OutOfMemory>
     ensures { IfOk result (λ asked. asked ≡ asked_in path.now query.now) }
 {
+    // pages ask for the status again and again, and it has no argument
+    if path == CommandKind::Status.path().as_bytes() {
+        return Ok(Asked::Listing(Listing::Status));
+    }
     match read_command(alloc, path, query) {
         Ok(command) => asked_with(alloc, &command),
         Err(AdminFault::NoCommand) => Ok(Asked::NoCommand),
@@ -24,7 +28,7 @@ pub(super) fn asked_in(alloc: Global, path: &[u8], query: &[u8]) -> Result<Asked
     }
 }
 
-/// What a command that was read asks for. `OutOfMemory` if memory was refused.
+/// Returns what a command that was read asks for. `OutOfMemory` if memory was refused.
 fn asked_with(alloc: Global, command: &Read) -> Result<Asked, OutOfMemory>
     ensures { IfOk result (λ asked. asked ≡ asked_with command.now) }
 {
@@ -69,7 +73,7 @@ fn add_user(alloc: Global, sent: &NewUser) -> Result<Asked, OutOfMemory>
     }))
 }
 
-/// What is asked for where a command of this kind lacks an argument, and names this mount, if any.
+/// Returns the request of a command of this kind that lacks an argument. `mount` is the mount that it names, if any.
 fn lacking(kind: CommandKind, mount: Option<MountName>) -> Asked
     ensures { result ≡ lacking kind mount }
 {

@@ -1,4 +1,4 @@
-//! A source's body, read into events.
+//! Reads a source's body into events.
 
 ghost use Rattle.std.specs.Prelude.{◌≡◌, ◌≢◌, ◌++◌, map, false, None, IfOk, OnOk};
 ghost use Rattle.radio_events.specs.declared.event.Event.TheVariants.{Push};
@@ -17,7 +17,7 @@ use radio_source::{Blocks, Body, BodyFault};
 use std::alloc::{AllocError, Global};
 use std::marker::Model;
 
-/// A source's body, which has a place of its own in memory, so that a connection without one is
+/// A source's body in a box of its own, so that a connection without one is
 /// small.
 pub(crate) struct KeptBody {
     body: Box<Body>,
@@ -39,7 +39,7 @@ impl Model for KeptBody {
 }
 
 impl KeptBody {
-    /// It is kept from now on. `OutOfMemory` if memory was refused.
+    /// Moves a body into a box. `OutOfMemory` if memory was refused.
     pub(super) fn new(alloc: Global, body: Body) -> Result<KeptBody, OutOfMemory>
         ensures { IfOk result (λ kept. kept ≡ body) }
     {
@@ -48,7 +48,7 @@ impl KeptBody {
         })
     }
 
-    /// Feeds it what comes next, and answers its data in blocks, and how it closes the connection,
+    /// Feeds the body with the next bytes. Returns its data in blocks, and how it closes the connection,
     /// if it does. `OutOfMemory` if memory was refused.
     pub(super) fn read(
         &mut self,
@@ -64,7 +64,7 @@ impl KeptBody {
     }
 }
 
-/// Feeds a body what comes next, and answers its data in blocks, and how it closes the connection,
+/// Feeds a body with the next bytes. Returns its data in blocks, and how it closes the connection,
 /// if it does. `OutOfMemory` if memory was refused.
 fn read(
     alloc: Global,
@@ -96,7 +96,8 @@ fn read(
     }
 }
 
-/// Returns the fault in a body after its data, if there is one.
+/// Returns the last word of a body that has a fault after its data, if it has one. `OutOfMemory` if memory was
+/// refused.
 fn fault(body: &mut Body) -> Result<Option<LastWord>, OutOfMemory>
     requires open { body.old ≡ unfed body.old.place }
     requires unfinished { has_ended body.old.place ≡ false }
@@ -110,7 +111,7 @@ fn fault(body: &mut Body) -> Result<Option<LastWord>, OutOfMemory>
     Ok(Some(word))
 }
 
-/// The word for a fault, unless it is that memory was refused.
+/// Returns the last word for a fault. `OutOfMemory` if the fault is that memory was refused.
 fn faulty(fault: BodyFault) -> Result<LastWord, OutOfMemory>
     ensures word { IfOk result (λ word. word ≡ Faulty) }
     ensures memory { IfOk result (λ _. fault ≢ NoMemory) }
@@ -121,8 +122,8 @@ fn faulty(fault: BodyFault) -> Result<LastWord, OutOfMemory>
     }
 }
 
-/// Appends an event for each block of a source's data. `OutOfMemory` if memory was refused; some
-/// of the events may have been appended then.
+/// Appends an event for each block of a source's data. `OutOfMemory` if memory was refused. Some
+/// of the events may be in `events` then.
 pub(super) fn push_blocks(
     id: u64,
     blocks: Vec<Block>,

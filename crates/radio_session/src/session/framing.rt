@@ -1,4 +1,4 @@
-//! How the data of a source come.
+//! How the data of a source arrive, by its head.
 
 ghost use Rattle.std.specs.Prelude.{◌≡◌, option_copied};
 ghost use Rattle.radio_source.specs.Feeding.{unfed};
@@ -11,18 +11,18 @@ use radio_source::Body;
 use radio_texts::read_number;
 use std::alloc::Global;
 
-/// How the data of a source come (RFC 9112, section 6).
+/// How the data of a source arrive (RFC 9112, section 6).
 #[derive(Clone, Copy)]
 pub(crate) enum Framing {
-    /// They are all that comes, and have no end.
+    /// All bytes are data, without an end.
     Plain,
-    /// They are so many bytes.
+    /// The data are this many bytes.
     Sized(u64),
-    /// They come in chunks.
+    /// The data arrive in chunks.
     Chunked,
 }
 
-/// The body in which they come.
+/// Returns the body of this framing, before its first byte.
 pub(super) fn body(alloc: Global, framing: Framing) -> Body
     ensures { result ≡ unfed (start_of framing) }
 {
@@ -33,7 +33,7 @@ pub(super) fn body(alloc: Global, framing: Framing) -> Body
     }
 }
 
-/// Whether by this method a source feeds a mount.
+/// Returns whether a source feeds a mount by the method of this head.
 pub(super) fn is_source(head: &Head) -> bool
     ensures { result ≡ is_source head.now }
 {
@@ -46,8 +46,8 @@ fn is_put(head: &Head) -> bool
     head.method() == b"PUT".as_slice()
 }
 
-/// How the data come behind the head of a source; `None` if its headers do not say it as they
-/// should.
+/// Returns how the data of a source arrive after this head. `None` if its headers name an unknown coding, a bad
+/// length, or both a coding and a length.
 pub(super) fn framing_of(head: &Head) -> Option<Framing>
     ensures { result ≡ framing_of head.now }
 {
@@ -60,7 +60,7 @@ pub(super) fn framing_of(head: &Head) -> Option<Framing>
     )
 }
 
-/// Returns what an admitted source reads first.
+/// Returns what the source of this head reads first if it is admitted.
 pub(super) fn greeting(head: &Head) -> Greeting
     ensures { result ≡ greeting_of head.now }
 {
@@ -82,7 +82,7 @@ fn framed_by(coding: Option<&[u8]>, length: Option<&[u8]>) -> Option<Framing>
     }
 }
 
-/// The coding, but for `identity`, which is none.
+/// Returns the coding, or `None` if it is `identity`, which counts as none.
 fn unless_identity(coding: Option<&[u8]>) -> Option<&[u8]>
     ensures { option_copied result ≡ unless_identity (option_copied coding.entry) }
 {
@@ -110,7 +110,7 @@ fn sized(length: &[u8]) -> Option<Framing>
     Some(Framing::Sized(read_number(length, 10, u64::MAX)?))
 }
 
-/// Whether the value of a header is this word, in any case of letters.
+/// Returns whether the value of a header is this word, in any case of letters.
 pub(super) fn is_word(value: Option<&[u8]>, word: &[u8]) -> bool
     ensures { result ≡ is_word word.now (option_copied value.entry) }
 {

@@ -1,3 +1,5 @@
+//! Turns the bytes that arrive on a connection into events. Read [`Session::take`] first.
+
 ghost use Rattle.std.specs.Prelude.{◌≡◌, ◌≤◌, [], ◌∷◌, ◌++◌, drop, length, take, true, IfOk, IsErr, OnErr};
 ghost use Rattle.radio_session.specs.Hearing.{IsHeard, HearsAs, request_heard, source_heard, get_heard, body_heard, closes_with, refuses};
 ghost use Rattle.radio_session.specs.Hearing.{nothing_held, going_on};
@@ -17,14 +19,14 @@ use std::alloc::{AllocError, Global};
 use std::mem;
 
 impl Session {
-    /// Takes bytes that have come, and returns the events that they mean, in order.
+    /// Takes bytes that have arrived, and returns the events that they mean, in order.
     ///
-    /// `OutOfMemory` if memory was refused, now or to an earlier call; the session has failed then, and there are no
+    /// `OutOfMemory` if memory was refused, now or to an earlier call. Then the session has failed, and there are no
     /// events.
     // rule: Bad head; Bad method; Commands by GET; Commands by a browser; Source request; Framing; Two lengths
     // rule: Bad framing; Listen request
     pub fn take(&mut self, bytes: &[u8]) -> Result<Vec<Event>, OutOfMemory>
-        // the events and what is left are those that the bytes mean
+        // the events and the conversation after them are those that the bytes mean
         ensures events { IfOk result (λ events. IsHeard self.old bytes.now (record { events = events.items; conversation = self.new })) }
         // a refused call fails the session, and a failed session refuses
         ensures fails { OnErr result (self.new.has_failed ≡ true) }
@@ -42,7 +44,7 @@ impl Session {
         }
     }
 
-    /// The events that bytes mean which come on a session that has not failed.
+    /// Returns the events that these bytes mean. The session has not failed.
     fn hear(&mut self, bytes: &[u8]) -> Result<Vec<Event>, OutOfMemory>
         ensures { IfOk result (λ events. IsHeard self.old bytes.now (record { events = events.items; conversation = self.new })) }
     {
@@ -56,7 +58,7 @@ impl Session {
         }
     }
 
-    /// Bytes of a body, whose events come behind these.
+    /// Takes bytes of a body, and appends their events to `events`.
     fn take_body(
         &mut self,
         body: KeptBody,
@@ -80,7 +82,7 @@ impl Session {
         }
     }
 
-    /// A part of a head.
+    /// Takes bytes of a head.
     fn take_head(&mut self, bytes: &[u8]) -> Result<Vec<Event>, OutOfMemory>
         ensures { IfOk result (λ events. HearsAs Hears.Head self.old bytes.now (record { events = events.items; conversation = self.new })) }
     {
@@ -97,7 +99,7 @@ impl Session {
         }
     }
 
-    /// A whole head, and the bytes behind it.
+    /// Takes a whole head, and the bytes that follow it.
     fn take_request(&mut self, head: &Head, behind: &[u8]) -> Result<Vec<Event>, OutOfMemory>
         ensures { IfOk result
             (λ events. request_heard (nothing_held self.old) head.now behind.now ≡ record { events = events.items; conversation = self.new }) }
@@ -111,7 +113,7 @@ impl Session {
         }
     }
 
-    /// The head of a GET.
+    /// Takes the head of a GET.
     fn take_get(&mut self, head: &Head) -> Result<Vec<Event>, OutOfMemory>
         ensures { IfOk result (λ events. get_heard self.old head.now ≡ record { events = events.items; conversation = self.new }) }
     {
@@ -122,7 +124,7 @@ impl Session {
         Ok(events)
     }
 
-    /// A source's head, and the first of its data.
+    /// Takes a source's head, and the first bytes of its body.
     fn take_source(&mut self, head: &Head, behind: &[u8]) -> Result<Vec<Event>, OutOfMemory>
         ensures { IfOk result
             (λ events. source_heard (nothing_held self.old) head.now behind.now (framing_of head.now)
@@ -139,7 +141,7 @@ impl Session {
         self.take_body(body, events, behind)
     }
 
-    /// Refuses by the connection's own rule: the client leaves, and then reads the rule.
+    /// Refuses by the connection's own rule: the client leaves, and then reads a denial that names the rule.
     fn refuse(&mut self, rule: Rule) -> Result<Vec<Event>, OutOfMemory>
         ensures { IfOk result (λ events. refuses self.old rule ≡ record { events = events.items; conversation = self.new }) }
     {
@@ -151,7 +153,7 @@ impl Session {
         )
     }
 
-    /// After these events the last is applied, which closes the conversation.
+    /// Appends the last event, and closes the conversation: the reply to that event brings this last word.
     fn close(
         &mut self,
         events: Vec<Event>,
@@ -168,7 +170,7 @@ impl Session {
         Ok(events)
     }
 
-    /// The head is over.
+    /// Forgets the bytes of the head, and reads the next bytes this way.
     fn go_on(&mut self, hears: Hears)
         requires { IsOpen hears }
         ensures { self.new ≡ going_on self.old hears }
@@ -178,7 +180,7 @@ impl Session {
     }
 }
 
-/// Returns the bytes after so many.
+/// Returns the bytes from this position on.
 fn behind(bytes: &[u8], end: usize) -> &[u8]
     requires { end ≤ length bytes.now }
     ensures { result.now ≡ drop end bytes.now }

@@ -1,3 +1,5 @@
+//! Turns replies into the bytes to write. Read [`Session::give`] first.
+
 ghost use Rattle.std.specs.Prelude.{◌≡◌, ◌≤◌, ◌++◌, length, true, Some, option_copied, option_map, IfOk, IfSome, IsErr, OnOk, OnErr};
 ghost use Rattle.radio_session.specs.Conversation.{saying_now};
 ghost use Rattle.radio_session.specs.Saying.{said, texted, denied, noted, one_less, admitted, listener_admitted, drew, last_text, last_ending, greeting_text, counted_down};
@@ -22,7 +24,7 @@ impl Session {
     /// Takes the reply to an event of the client, appends its bytes to `out`, and returns whether the connection goes
     /// on.
     ///
-    /// `OutOfMemory` if memory was refused, now or to an earlier call; the session has failed then, and nothing was
+    /// `OutOfMemory` if memory was refused, now or to an earlier call. Then the session has failed, and nothing was
     /// appended.
     // rule: Bad head; Cache control; Sandboxed streams; Answer to a denial
     pub fn give(&mut self, reply: Reply, out: &mut Vec<u8>) -> Result<State, OutOfMemory>
@@ -39,7 +41,7 @@ impl Session {
         appended
     }
 
-    /// The same, of a reply that the caller keeps.
+    /// Does what [`Session::give`] does, for a reply that the caller keeps.
     pub fn tell_reply(&mut self, reply: &Reply, out: &mut Vec<u8>) -> Result<State, OutOfMemory>
         ensures bytes { IfOk result (λ _. out.new.items ≡ out.old.items ++ (said self.old.says reply.now).bytes) }
         ensures state { IfOk result (λ state. state ≡ (said self.old.says reply.now).state) }
@@ -60,7 +62,7 @@ impl Session {
         }
     }
 
-    /// Appends what the client reads of a reply, on a session that has not failed.
+    /// Appends the bytes of a reply. The session has not failed.
     fn say(&mut self, reply: &Reply, out: &mut Vec<u8>) -> Result<State, OutOfMemory>
         ensures bytes { IfOk result (λ _. out.new.items ≡ out.old.items ++ (said self.old.says reply.now).bytes) }
         ensures state { IfOk result (λ state. state ≡ (said self.old.says reply.now).state) }
@@ -82,7 +84,7 @@ impl Session {
         }
     }
 
-    /// A source is admitted.
+    /// Appends the first answer to a source, and marks it as admitted.
     fn admit_source(&mut self, out: &mut Vec<u8>) -> Result<State, OutOfMemory>
         ensures bytes { IfOk result (λ _. out.new.items ≡ out.old.items ++ greeting_text self.old.says.web self.old.says.greeting) }
         ensures state { IfOk result (λ state. state ≡ Running) }
@@ -94,7 +96,7 @@ impl Session {
         Ok(State::Running)
     }
 
-    /// A listener is admitted.
+    /// Appends the head of a listener's stream, and marks the listener as admitted.
     fn admit_listener(
         &mut self,
         interval: Option<u32>,
@@ -112,7 +114,7 @@ impl Session {
         Ok(State::Running)
     }
 
-    /// A listener's data, drawn while their mount has this title.
+    /// Appends a listener's data, drawn while its mount had this title.
     fn tell_pieces(
         &mut self,
         pieces: &Pieces,
@@ -130,7 +132,8 @@ impl Session {
         Ok(State::Running)
     }
 
-    /// A command was done, and this is said of it.
+    /// Appends the text of a command that was done. If a source or a listener was admitted, it only shuts the
+    /// connection.
     fn tell_text(&self, text: &ReplyText, out: &mut Vec<u8>) -> Result<State, OutOfMemory>
         ensures bytes { IfOk result (λ _. out.new.items ≡ out.old.items ++ (texted self.now.says text.now).bytes) }
         ensures state { IfOk result (λ state. state ≡ (texted self.now.says text.now).state) }
@@ -142,7 +145,8 @@ impl Session {
         Ok(State::Shut(Ending::Done))
     }
 
-    /// The policy denies.
+    /// Appends the denial by a rule of the policy. If a source or a listener was admitted, it only shuts the
+    /// connection.
     fn deny(&self, rule: Rule, out: &mut Vec<u8>) -> Result<State, OutOfMemory>
         ensures bytes { IfOk result (λ _. out.new.items ≡ out.old.items ++ (denied self.now.says rule).bytes) }
         ensures state { IfOk result (λ state. state ≡ (denied self.now.says rule).state) }
@@ -154,7 +158,8 @@ impl Session {
         Ok(State::Shut(Ending::By(rule)))
     }
 
-    /// An event was applied: the connection's own last word may be written now.
+    /// Takes the reply that an event was noted. If the connection closes by its own rule and awaits no other reply,
+    /// it appends its last word.
     fn note(&mut self, out: &mut Vec<u8>) -> Result<State, OutOfMemory>
         ensures bytes { IfOk result (λ _. out.new.items ≡ out.old.items ++ (noted self.old.says self.old.says.closing).bytes) }
         ensures state { IfOk result (λ state. state ≡ (noted self.old.says self.old.says.closing).state) }
@@ -167,7 +172,7 @@ impl Session {
         }
     }
 
-    /// One reply more before the connection's own last word, or that word.
+    /// Counts one reply before the connection's own last word, or appends that word.
     fn note_closing(&mut self, closing: Closing, out: &mut Vec<u8>) -> Result<State, OutOfMemory>
         ensures bytes { IfOk result (λ _. out.new.items ≡ out.old.items ++ (noted self.old.says (Some closing)).bytes) }
         ensures state { IfOk result (λ state. state ≡ (noted self.old.says (Some closing)).state) }
@@ -187,7 +192,7 @@ impl Session {
         Ok(State::Running)
     }
 
-    /// A source or a listener was admitted.
+    /// Marks a source or a listener as admitted.
     fn admit(&mut self)
         ensures { self.new ≡ saying_now self.old (admitted self.old.says) }
     {
@@ -195,7 +200,7 @@ impl Session {
         self.count();
     }
 
-    /// Counts one reply less before that with the last word.
+    /// Counts one reply before the one with the last word.
     fn count(&mut self)
         ensures { self.new ≡ saying_now self.old (counted_down self.old.says) }
     {
@@ -203,7 +208,7 @@ impl Session {
     }
 }
 
-/// Returns the closing with one reply less before that with the last word.
+/// Returns the closing with one reply fewer before the one with the last word.
 fn counted(closing: Option<Closing>) -> Option<Closing>
     ensures { result ≡ option_map one_less closing }
 {
@@ -214,7 +219,7 @@ fn counted(closing: Option<Closing>) -> Option<Closing>
     })
 }
 
-/// The last word of the connection itself.
+/// Appends the last word of the connection itself, and returns how it shuts.
 fn tell_last(
     alloc: Global,
     web: WebAnswers,

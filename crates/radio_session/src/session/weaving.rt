@@ -1,4 +1,4 @@
-//! A listener's data, with metadata between them.
+//! A listener's data, with metadata between them (ICY convention).
 
 ghost use Rattle.std.specs.Prelude.{◌≡◌, ◌≤◌, ◌++◌, length, option_copied, IfSome, OnOk, OnErr};
 ghost use Rattle.std.specs.List.{concat};
@@ -15,7 +15,7 @@ use radio_icy::laws::joined_weaving;
 use radio_values::Title;
 use std::alloc::Global;
 
-/// What puts metadata between the data of a listener with this interval, if it is sent any.
+/// Returns the weaver of a listener with this interval. `None` if the listener gets no metadata.
 pub(super) fn weaver_at(alloc: Global, interval: Option<u32>) -> Option<Weaver>
     ensures { result ≡ weaver_at interval }
 {
@@ -23,7 +23,7 @@ pub(super) fn weaver_at(alloc: Global, interval: Option<u32>) -> Option<Weaver>
     Some(Weaver::new(alloc, interval as usize))
 }
 
-/// The bytes of a title, if there is one.
+/// Returns the bytes of a title, if there is one.
 pub(super) fn text_of(title: &Option<Title>) -> Option<&[u8]>
     ensures text { option_copied result ≡ title.now }
     ensures fits { IfSome result (λ text. length text.now ≤ max_title) }
@@ -34,8 +34,8 @@ pub(super) fn text_of(title: &Option<Title>) -> Option<&[u8]>
     }
 }
 
-/// Appends data that were drawn while their mount had this title, with the metadata that are due
-/// between them. `OutOfMemory` if memory was refused: nothing was appended then.
+/// Appends data that were drawn while their mount had this title, with the metadata blocks that are due
+/// between them. `OutOfMemory` if memory was refused; then nothing was appended.
 pub(super) fn tell_draw(
     weaver: &mut Option<Weaver>,
     pieces: &Pieces,

@@ -8,6 +8,6 @@ returns-clause-slices c settings lists events id = draws_are_stretches settings 
 pub returns-clause-cut : goal.returns-clause-cut
 returns-clause-cut c settings lists events id = draws_are_cut settings lists events (c.stretches_are_whole.ensures.cut settings lists events) id
 
--- nobody has the number 0, as if it who had it had left
+-- no client has the number 0, as if it had left
 pub returns-clause-nobody : goal.returns-clause-nobody
 returns-clause-nobody c settings lists events = (c.who_left_is_gone.ensures.gone settings lists [] events 0 (omega arith, refl)).brings_nothing

@@ -2,7 +2,7 @@ use Rattle.std.proofs.Common.{◌≡◌, ◌++◌, length}
 use Rattle.radio_icy.specs.Unweaving.{at_sound, atoms_of_piece, after_feeding}
 use Rattle.radio_icy.proofs.unweaver.read_intervals.Given as goal
 
--- what was heard and what is still to be heard make what is asked for
+-- the items so far, and those of the remaining bytes, are the items of all bytes
 abbrev pub invariant-intervals : goal.invariant-intervals
 invariant-intervals l =
     (l.items ++ atoms_of_piece (at_sound l.interval l.left) l.rest ≡ l.initial.items ++ atoms_of_piece (at_sound l.interval l.fn.left) l.bytes)

@@ -4,7 +4,7 @@ use Rattle.radio_relay.specs.Pulling.{NumberedState}
 use Rattle.radio_relay.specs.Course.{BringsItems, BringsAtMost}
 use Rattle.radio_relay.proofs.conversing.bring.Given as goal
 
--- whatever the items that are left come to from here, all items come to from the start
+-- whatever the remaining items yield from here, all items yield from the start
 abbrev pub invariant-loop-item : goal.invariant-loop-item
 invariant-loop-item g l = record {
   same : l.relay ≡ record l.initial.relay { number = l.relay.number };

@@ -5,7 +5,7 @@ use Rattle.radio_script.specs.Runs.{Runs}
 use Rattle.radio_script.proofs.RunLemmas.{RunsOn, RunsOn-more, RunsOn-stops, RunsOn-all}
 use Rattle.radio_script.proofs.running.run_with.Goals as goal
 
--- the delivery at an index, and those behind it
+-- the delivery at an index, and those after it
 next_of : (all : List Delivery) (i : ℕ) (delivery : Delivery) → i < length all → delivery ≡ get_or all i delivery → drop i all ≡ delivery ∷ drop (i + 1) all
 next_of all i delivery within is = drop_more all i delivery within ∙ ap (λ d. d ∷ drop (i + 1) all) (sym is)
 

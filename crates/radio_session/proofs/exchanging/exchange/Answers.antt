@@ -9,7 +9,7 @@ use Rattle.radio_session.specs.Exchanges.{Exchange, nothing_exchanged, prefixed,
 use Rattle.radio_session.proofs.ExchangeLemmas.{prefix_twice, one_on, one_last}
 use Rattle.radio_session.proofs.exchanging.exchange.Goals as goal
 
--- a conversation that goes on saying so is the one at the start, but for what it says
+-- a conversation that changed twice in how it writes is the one at the start, with the last of these changes
 says_on : (start before now : Conversation) (says : Says) → before ≡ record start { says = before.says } → now ≡ record before { says = says }
     → now ≡ record start { says = says }
 says_on start before now says same e = e ∙ ap (λ (c : Conversation). record c { says = says }) same

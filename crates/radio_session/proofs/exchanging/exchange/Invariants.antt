@@ -3,7 +3,7 @@ use Rattle.std.specs.Vec.Iter.{into_iter_items}
 use Rattle.radio_session.specs.Exchanges.{Exchange, prefixed, Exchanges}
 use Rattle.radio_session.proofs.exchanging.exchange.Given as goal
 
--- whatever the events that are left come to from here, all events come to from the start, behind the bytes that went out so far
+-- whatever the remaining events exchange from here, all events exchange from the start, after the bytes that were written so far
 abbrev pub invariant-loop-event : goal.invariant-loop-event
 invariant-loop-event g l = record {
   so_far : List ℕ;

@@ -3,7 +3,7 @@ use Rattle.radio_access.specs.Lists.{Lists}
 use Rattle.radio_startup.specs.Files.{ReadUsers}
 use Rattle.radio_startup.proofs.lists.read_user_lists.Given as goal
 
--- what the rest of the mounts come to from here, all mounts come to from the beginning
+-- whatever the remaining mounts give from here, all mounts give from the beginning
 abbrev pub invariant-loop-mount : goal.invariant-loop-mount
 invariant-loop-mount g l =
     (after : Lists) → ReadUsers (g.F.ReadsFiles.holds l.files) (drop l.mount-index l.mounts) l.lists after

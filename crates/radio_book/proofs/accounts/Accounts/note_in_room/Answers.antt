@@ -14,7 +14,7 @@ invariant_of-self-clause-by_entries g c =
     let lines = c.args.self.now.lines in
     let keeps : lines.keeps ≡ true = c.args.self.now.keeps ∙ c.requires.keeps in
     let cuts = c.note_cuts.ensures.kept keeps in
-    let made = entry c.args.copies.noted c.apart-first.result.0 in
+    let made = entry c.args.noted c.apart-first.result.0 in
     let noted = c.note.ensures.kept (c.note_cuts.ensures.keeps ∙ keeps) ∙ ap (λ (front : List ControlLine). front ++ Made made ∷ []) cuts.2 in
     let step = c.in-Ok.ensures.step in
     let replies = sym c.apart-first.ensures ∙ step.1 in
@@ -23,10 +23,10 @@ invariant_of-self-clause-by_entries g c =
     let books = c.args.lent.now in
     let back = c.step3_over.new.lent in
     let after = c.step3_over.new.control in
-    let noted_so : IsControlStep books before c.args.copies.noted step.0 back after =
+    let noted_so : IsControlStep books before c.args.noted step.0 back after =
     subst (λ (e : Event). IsControlStep books before e step.0 back after) (sym c.requires.copies.0) step.2 in
     made_more g.C.Chronicle.KEEPS g.H.Origin.opening lines.items c.note.new.self.items books back before after made
-    (subst (λ (r : Reply). IsControlStep books before c.args.copies.noted r back after) (sym first) noted_so)
+    (subst (λ (r : Reply). IsControlStep books before c.args.noted r back after) (sym first) noted_so)
     (λ kept. ap entries_in noted ∙ noted_entries lines.items cuts.0 c.step3_over.new.lent made cuts.1) c.args.self.now.by_entries
 
 pub invariant_of-self-in-Err-1 : goal.invariant_of-self-in-Err-1

@@ -6,7 +6,8 @@ use Rattle.radio_connections.specs.declared.conn.Fate.TheVariants.{Open}
 use Rattle.radio_connections.proofs.Standing.{answered_as}
 use Rattle.radio_connections.proofs.Calling.{later_same, later_by_refusal, more_refused}
 use Rattle.radio_connections.proofs.Deeds.{answered_by_cut, closed_not_cut}
-use Rattle.radio_connections.proofs.DeedChains.{chain_one, draws_for_one}
+use Rattle.radio_connections.specs.Rooms.{fills_room}
+use Rattle.radio_connections.proofs.DeedChains.{chain_one, draws_for_one, same_reply}
 use Rattle.radio_connections.proofs.serving.drawing.draw_for.Goals as goal
 
 pub returns-in-Ok : goal.returns-in-Ok
@@ -33,6 +34,7 @@ returns-in-Ok g c =
       };
       asked = refl;
     })
+    (λ reply is. c.fills_room-conn-inside.ensures ∙ ap fills_room (same_reply c.conn.inside.id c.args.room c.in-Ok.reply reply is))
 
 pub returns-in-Err : goal.returns-in-Err
 returns-in-Err g c =
@@ -46,3 +48,4 @@ returns-in-Err g c =
       closed = λ e. closed_not_cut (sym e);
       cut = λ e. inr (more_refused draw _ _ c.in-Err.ensures.one);
     }) refl refl refl)
+    (λ reply is. let none : [] ≡ entry draw reply ∷ [] = is in cc)

@@ -15,7 +15,7 @@ use Rattle.radio_session.proofs.session.Session.take_head.Goals as goal
 within : (bytes : List ℕ) (p : Progress RequestParts) (head : RequestParts) (n : ℕ) → IsWithin bytes p → p ≡ Whole head n → n ≤ length bytes
 within bytes p head n h e = subst (IsWithin bytes) e h
 
--- what was held before has no end of a head
+-- the bytes held before contain no end of a head
 pub read_request_from-requires-clause-searched : goal.read_request_from-requires-clause-searched
 read_request_from-requires-clause-searched c =
     let old = c.self.inside.held.items in
@@ -26,7 +26,7 @@ read_request_from-requires-clause-searched c =
     ap (take c.len-seen.result) bytes ∙ take_at old c.args.bytes.now c.len-seen.result seen in
     subst HasNoEnd (sym front) c.self.invariant.0
 
--- and what is held now has none either
+-- nor do the bytes held now
 pub invariant_of-self-in-Ok-More : goal.invariant_of-self-in-Ok-More
 invariant_of-self-in-Ok-More c =
     let bytes = c.as_slice.result.now in

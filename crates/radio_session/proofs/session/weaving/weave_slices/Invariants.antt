@@ -4,7 +4,7 @@ use Rattle.std.specs.Option.{option_copied}
 use Rattle.radio_icy.specs.Weaving.{woven, after_weaving}
 use Rattle.radio_session.proofs.session.weaving.weave_slices.Given as goal
 
--- what went out so far stands behind what stood there, and the slices that are left come to the rest
+-- the bytes written so far follow those that were there before, and the remaining slices give the rest
 abbrev pub invariant-loop-slice : goal.invariant-loop-slice
 invariant-loop-slice l = record {
   before : l.before ≡ length l.initial.out.items;
