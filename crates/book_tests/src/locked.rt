@@ -93,20 +93,13 @@ fn goes_well<R: Wait, H: Origin>(
 }
 
 /// Whether the pass settles with the hall.
-fn settles<H: Origin>(
-    alloc: Global,
-    hall: Hall<Kept, H>,
-    pass: Pass<Kept, H>,
-    again: Settings,
-    play: Play,
-) -> bool {
+fn settles<H: Origin>(alloc: Global, hall: Hall<Kept, H>, pass: Pass<Kept, H>, play: Play) -> bool {
     let mut passes = Vec::new(alloc);
     if passes.push(pass).is_err() {
         drop(hall);
-        drop(again);
         return false;
     }
-    match settle(alloc, hall, passes, again, Lists::new(alloc)) {
+    match settle(alloc, hall, passes) {
         Ok(history) => history.len() == play.calls(),
         Err(_) => false,
     }
@@ -119,23 +112,20 @@ fn are_settled<R: Wait, H: Origin>(
     core: &mut Core,
     play: Play,
     settings: Settings,
-    again: Settings,
     blank: Blank,
 ) -> bool
     requires opening { H.opening ≡ opening settings no_lists }
     requires ledger { (blank.name ≡ H.name) × (blank.parts ≡ H.parts) × (blank.parts ≡ 2 ^ 32) }
 {
     let Ok(hall) = Hall::<Kept, H>::new(alloc, settings, Lists::new(alloc), blank) else {
-        drop(again);
         return false;
     };
     let Some(mut pass) = hall.pass(rt) else {
         drop(hall);
-        drop(again);
         return false;
     };
     let went = goes_well(rt, alloc, &hall, &mut pass, core, play);
-    settles(alloc, hall, pass, again, play) && went
+    settles(alloc, hall, pass, play) && went
 }
 
 fn settled_beside<R: Wait>(
@@ -145,17 +135,9 @@ fn settled_beside<R: Wait>(
     play: Play,
 ) -> Result<bool, SettingsFault> {
     let (more, _) = play.settings();
-    let again = settings(alloc, more)?;
-    match settings(alloc, more) {
-        Ok(settings) => {
-            let blank = Blank::new(PASSES);
-            Ok(are_settled::<R, Brand>(rt, alloc, core, play, settings, again, blank))
-        }
-        Err(fault) => {
-            drop(again);
-            Err(fault)
-        }
-    }
+    let settings = settings(alloc, more)?;
+    let blank = Blank::new(PASSES);
+    Ok(are_settled::<R, Brand>(rt, alloc, core, play, settings, blank))
 }
 
 fn is_settled<R: Wait>(rt: &R, alloc: Global, play: Play) -> Result<bool, SettingsFault> {

@@ -104,15 +104,14 @@ pub enum Visit {
 }
 
 impl Visit {
-    /// Settles the passes of this hall, which has these settings. Whether they are settled as they are to be.
+    /// Settles the passes of this hall. Whether they are settled as they are to be.
     fn settles<H: Origin>(
         self,
         alloc: Global,
         hall: Hall<Kept, H>,
         passes: Vec<Pass<Kept, H>>,
-        again: Settings,
     ) -> bool {
-        let settled = settle(alloc, hall, passes, again, Lists::new(alloc));
+        let settled = settle(alloc, hall, passes);
         let is_settled = self.is_settled(alloc, &settled);
         drop(settled);
         is_settled
@@ -223,12 +222,11 @@ pub fn takes_pass<H: Origin, R: Wait>(
     }
 }
 
-/// The visit at a hall of these settings, of which a second copy is for the settling. Whether it went as it is to go.
+/// The visit at a hall of these settings. Whether it went as it is to go.
 fn goes_well<H: Origin + Send + Sync, R: Threads + Wait + Clock + Sync>(
     rt: &R,
     alloc: Global,
     settings: Settings,
-    again: Settings,
     blank: Blank,
     visit: Visit,
 ) -> bool
@@ -236,12 +234,11 @@ fn goes_well<H: Origin + Send + Sync, R: Threads + Wait + Clock + Sync>(
     requires ledger { (blank.name ≡ H.name) × (blank.parts ≡ H.parts) × (blank.parts ≡ 2 ^ 32) }
 {
     let Ok(hall) = Hall::<Kept, H>::new(alloc, settings, Lists::new(alloc), blank) else {
-        drop(again);
         return false;
     };
     let mut passes = Vec::new(alloc);
     let went = visit_with(rt, alloc, &hall, &mut passes, visit);
-    visit.settles(alloc, hall, passes, again) && went
+    visit.settles(alloc, hall, passes) && went
 }
 
 fn went_well<R: Threads + Wait + Clock + Sync>(
@@ -250,17 +247,9 @@ fn went_well<R: Threads + Wait + Clock + Sync>(
     more: &str,
     visit: Visit,
 ) -> Result<bool, SettingsFault> {
-    let again = settings(alloc, more)?;
-    match settings(alloc, more) {
-        Ok(settings) => {
-            let blank = Blank::new(PASSES);
-            Ok(goes_well::<Brand, R>(rt, alloc, settings, again, blank, visit))
-        }
-        Err(fault) => {
-            drop(again);
-            Err(fault)
-        }
-    }
+    let settings = settings(alloc, more)?;
+    let blank = Blank::new(PASSES);
+    Ok(goes_well::<Brand, R>(rt, alloc, settings, blank, visit))
 }
 
 /// Whether at a hall with these settings more the visit goes as it is to go.

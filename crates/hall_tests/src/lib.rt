@@ -7,9 +7,12 @@
 //! - `scattered`: calls as dice have them, by several threads at once.
 //! - `workers`: workers in threads of their own, which take lines from an intake.
 //! - `over_a_hall`: a worker's turns over a hall, with another caller.
+//! - `changed_users`: users that a command changes before all is settled.
 //! - `kept_rows`: failing and slow connections over a hall, and which clients have left in its history.
 #![tactic(auto)]
 
+#[cfg(test)]
+mod changed_users;
 #[cfg(test)]
 mod freezing;
 #[cfg(test)]

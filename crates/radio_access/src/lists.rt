@@ -26,6 +26,17 @@ impl Drop for MountUsers {
     }
 }
 
+impl Clone for MountUsers {
+    ghost is_clone = { λ listed other. other ≡ listed };
+
+    fn clone(&self) -> Result<MountUsers, OutOfMemory> {
+        Ok(MountUsers {
+            mount: self.mount,
+            users: self.users.clone()?,
+        })
+    }
+}
+
 impl Row for MountUsers {
     type Key = MountName;
 
@@ -231,6 +242,18 @@ impl Lists {
             Some(listed) => accepts_sent(&listed.users, pair),
             None => true,
         }
+    }
+}
+
+impl Clone for Lists {
+    ghost is_clone = { λ lists other. other ≡ lists };
+
+    fn clone(&self) -> Result<Lists, OutOfMemory> {
+        Ok(Lists {
+            denied: self.denied.clone()?,
+            allowed: self.allowed.clone()?,
+            users: self.users.again()?,
+        })
     }
 }
 

@@ -6,7 +6,7 @@ use crate::address::Address;
 use crate::lines::{AddressRange, ListLine, read_line};
 use crate::peer::Peer;
 use radio_texts::cut;
-use std::alloc::Global;
+use std::alloc::{AllocError, Global};
 use std::error::Error;
 use std::fmt;
 use std::marker::Model;
@@ -88,6 +88,16 @@ impl AddressList {
         ensures { result ≡ is_listed self.now peer }
     {
         self.ranges.iter().any(|range| is_in(range, peer))
+    }
+}
+
+impl Clone for AddressList {
+    ghost is_clone = { λ list other. other ≡ list };
+
+    fn clone(&self) -> Result<AddressList, AllocError> {
+        Ok(AddressList {
+            ranges: self.ranges.clone()?,
+        })
     }
 }
 

@@ -3,3 +3,4 @@ pub mod Order
 pub mod Forks
 mod AtFork
 pub mod Bounds
+mod Cuts

@@ -1,41 +1,21 @@
--- rows in the order of their lots
-use Rattle.std.proofs.Common.{◌≡◌, ℕ, Bool, true, false, ◌||◌, ◌&&◌, nat_lt, List, [], ◌∷◌, ◌++◌, refl, ap, sym, subst, ◌∙◌, arith}
+-- rows in the order of their numbers
+use Rattle.std.proofs.Common.{◌≡◌, ℕ, Bool, true, false, List, [], ◌∷◌, ◌++◌, refl, ap, sym, subst, ◌∙◌, arith}
 use Rattle.std.specs.Prelude.{◌==◌, if◌then◌else◌}
 use Rattle.std.proofs.lemmas.Bool.Decides.{nat_tests}
 use Rattle.std.proofs.lemmas.Bool.{eqb-true}
 use Rattle.radio_tables.specs.Lists.{Each}
 use Rattle.radio_tables.proofs.EachLaws.{Each_each}
 use Rattle.radio_attachments.specs.declared.attachment.Attachment.{Attachment}
-use Rattle.radio_attachments.specs.Rows.{is_attached, lot_of, comes_before, IsBefore, AreInOrder, put_in}
-
--- lots, and numbers where two have one lot
-module _ (lot : ℕ → ℕ) where
-  abbrev first : ℕ → ℕ → Bool
-  first one other = nat_lt (lot one) (lot other) || (lot one == lot other) && nat_lt one other
-
-  before_apart : (one other : ℕ) → first one other ≡ true → (other == one) ≡ false
-  before_apart one other e = by_test (other == one) refl where
-    by_test : (b : Bool) → (other == one) ≡ b → b ≡ false
-    by_test false same = refl
-    by_test true same =
-        let is : other ≡ one = eqb-true other one same in
-        let self : first one one ≡ true = subst (λ (n : ℕ). first one n ≡ true) is e in
-        grind (arith, nat_tests, self)
-
-  before_on : (one other third : ℕ) → first one other ≡ true → first other third ≡ true → first one third ≡ true
-  before_on one other third e f = grind (arith, nat_tests, e, f)
-
-  after_else : (one other : ℕ) → (one == other) ≡ false → first one other ≡ false → first other one ≡ true
-  after_else one other e f = grind (arith, nat_tests, e, f)
+use Rattle.radio_attachments.specs.Rows.{is_attached, comes_before, IsBefore, AreInOrder, put_in}
 
 pub is_apart : (one other : ℕ) → comes_before one other ≡ true → (other == one) ≡ false
-is_apart one other e = before_apart lot_of one other e
+is_apart one other e = grind (arith, nat_tests, e)
 
 pub goes_on : (one other third : ℕ) → comes_before one other ≡ true → comes_before other third ≡ true → comes_before one third ≡ true
-goes_on one other third e f = before_on lot_of one other third e f
+goes_on one other third e f = grind (arith, nat_tests, e, f)
 
 pub comes_after : (one other : ℕ) → (one == other) ≡ false → comes_before one other ≡ false → comes_before other one ≡ true
-comes_after one other e f = after_else lot_of one other e f
+comes_after one other e f = grind (arith, nat_tests, e, f)
 
 -- parts of a list in order
 each_front : (P : Attachment → Type 0) (l m : List Attachment) → Each P (l ++ m) → Each P l
@@ -149,3 +129,16 @@ in_order_put new (x ∷ xs) h = by_tests (new.id == x.id) refl (comes_before new
       (Each_each (IsBefore x) (IsBefore new) (λ y b. subst (λ (n : ℕ). comes_before n y.id ≡ true) (sym same) b) xs h.0, h.1)
   by_tests false e true f later = ((f, Each_each (IsBefore x) (IsBefore new) (λ y b. goes_on new.id x.id y.id f b) xs h.0), h)
   by_tests false e false f later = (each_put (IsBefore x) new xs (comes_after new.id x.id e f) h.0, later)
+
+-- rows that are behind a row, with those behind all of them
+pub behind_row : (l : List Attachment) (x : Attachment) (m n : List Attachment) → AreInOrder ((l ++ x ∷ m) ++ n) → AreInOrder (m ++ n)
+behind_row [] x m n h = h.1
+behind_row (y ∷ l) x m n h = behind_row l x m n h.1
+
+-- rows that are before a row, with those before all of them
+pub before_row : (n l : List Attachment) (x : Attachment) (m : List Attachment) → AreInOrder (n ++ (l ++ x ∷ m)) → AreInOrder (n ++ l)
+before_row [] l x m h = front l (x ∷ m) h
+before_row (y ∷ n) l x m h = (each_before n h.0, before_row n l x m h.1) where
+  each_before : (n : List Attachment) → Each (IsBefore y) (n ++ (l ++ x ∷ m)) → Each (IsBefore y) (n ++ l)
+  each_before [] all = each_front (IsBefore y) l (x ∷ m) all
+  each_before (z ∷ n) all = (all.0, each_before n all.1)

@@ -1,5 +1,5 @@
 -- The rows of those who are attached to a mount.
-use Rattle.std.specs.Prelude.{◌≡◌, ℕ, ◌-◌, ◌*◌, ◌%◌, ◌^◌, Bool, ◌==◌, ◌||◌, ◌&&◌, true, nat_lt, if◌then◌else◌, List, [], ◌∷◌, Option, Some, None, find}
+use Rattle.std.specs.Prelude.{◌≡◌, ℕ, ◌-◌, Bool, ◌==◌, true, nat_lt, if◌then◌else◌, List, [], ◌∷◌, Option, Some, None, find}
 use Rattle.radio_tables.specs.Lists.{Each, update_first}
 use Rattle.radio_attachments.specs.declared.attachment.Attachment.{Attachment}
 
@@ -13,13 +13,9 @@ at_place place row = record row { place = place }
 abbrev pub lags : ℕ → ℕ → Attachment → Bool
 lags end queue row = nat_lt queue (end - row.place)
 
--- a number for this one, by which rows are ordered
-unfoldable pub lot_of : ℕ → ℕ
-lot_of id = (id * 11400714819323198485) % 2 ^ 64
-
--- and where two have one lot, by their numbers
+-- rows are in the order of their numbers
 abbrev pub comes_before : ℕ → ℕ → Bool
-comes_before one other = nat_lt (lot_of one) (lot_of other) || (lot_of one == lot_of other) && nat_lt one other
+comes_before one other = nat_lt one other
 
 abbrev pub IsBefore : Attachment → Attachment → Type 0
 IsBefore one other = comes_before one.id other.id ≡ true

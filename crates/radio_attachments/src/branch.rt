@@ -1,9 +1,9 @@
 //! The nodes of a tree of attachments, which move from one tree to another.
 
-ghost use Rattle.std.specs.Prelude.{◌≡◌, ◌≤◌, ◌<◌, ◌==◌, false, [], ◌∷◌, ◌++◌, length, find, filter, not, IfOk, MatchOption};
+ghost use Rattle.std.specs.Prelude.{◌≡◌, ◌≤◌, ◌<◌, ◌==◌, false, [], ◌∷◌, ◌++◌, length, find, filter, nat_lt, not, IfOk, MatchOption};
 ghost use Rattle.radio_tables.specs.Lists.{Each, update_first};
 ghost use Rattle.radio_attachments.specs.Shape.{rows_in};
-ghost use Rattle.radio_attachments.specs.Rows.{is_attached, at_place, comes_before, lot_of, put_in, AreInOrder, IsVisitedIn};
+ghost use Rattle.radio_attachments.specs.Rows.{is_attached, at_place, comes_before, put_in, AreInOrder, IsVisitedIn};
 
 use crate::{Attachment, AttachmentTest, OutOfMemory, PlaceVisit};
 use std::alloc::Global;
@@ -11,7 +11,7 @@ use std::marker::Model;
 use std::mem;
 
 /// The attachments of a tree, or of one side of a node. Contracts see their list, in the order of
-/// their lots.
+/// their numbers.
 #[cycle(branches)]
 #[derive(Drop)]
 pub struct Branch {
@@ -22,7 +22,7 @@ pub struct Branch {
 #[cycle(branches)]
 #[derive(Drop)]
 pub struct Node {
-    /// The lot of the attachment's number.
+    /// No node below has a less one.
     lot: u64,
     row: Attachment,
     less: Branch,
@@ -31,13 +31,11 @@ pub struct Node {
 
 impl Model for Node {
     ghost use Rattle.std.specs.Prelude.{◌≡◌, ◌+◌, ◌*◌, length};
-    ghost use Rattle.radio_attachments.specs.Rows.{Forked, lot_of};
+    ghost use Rattle.radio_attachments.specs.Rows.{Forked};
 
     ghost Value = { Forked };
 
     ghost view = { λ n. record { row = n.row; less = n.less; more = n.more } };
-
-    ghost invariant = { λ n. n.lot ≡ lot_of n.row.id };
 
     ghost size = { λ n. 2 * (length n.less + length n.more) + 1 };
 
@@ -130,9 +128,8 @@ impl Branch {
         self.top.is_none()
     }
 
-    /// Returns the attachment of this number and lot.
-    pub(crate) fn get(&self, id: u64, lot: u64) -> Option<Attachment>
-        requires { lot ≡ lot_of id }
+    /// Returns the attachment of this number.
+    pub(crate) fn get(&self, id: u64) -> Option<Attachment>
         ensures { result ≡ find (is_attached id) self.now }
     {
         let mut branch = self;
@@ -140,15 +137,13 @@ impl Branch {
             if id == fork.row.id {
                 return Some(fork.row);
             }
-            branch = side_of(fork, id, lot);
+            branch = side_of(fork, id);
         }
         None
     }
 
-    /// Adds the attachment of this lot, in place of one of its number if there is one. It takes no
-    /// memory.
-    pub(crate) fn put(&mut self, boxed: BoxedAttachment, lot: u64)
-        requires { lot ≡ lot_of boxed.id }
+    /// Adds the attachment, in place of one of its number if there is one. It takes no memory.
+    pub(crate) fn put(&mut self, boxed: BoxedAttachment)
         ensures { self.new ≡ put_in boxed self.old }
     {
         let row = boxed.row();
@@ -161,24 +156,56 @@ impl Branch {
                 if row.id == fork.row.id {
                     fork.row = row;
                     drop(boxed);
-                } else if comes_before(row.id, lot, fork.row.id, fork.lot) {
-                    fork.less.put(boxed, lot);
+                } else if boxed.node.lot < fork.lot {
+                    self.put_on_top(boxed);
+                } else if comes_before(row.id, fork.row.id) {
+                    fork.less.put(boxed);
                 } else {
-                    fork.more.put(boxed, lot);
+                    fork.more.put(boxed);
                 }
             }
         }
     }
 
-    /// Visits the place of the attachment of this number and lot, and returns the visit's answer;
-    /// `None` if there is no such attachment, and nothing has changed then.
-    pub(crate) fn visit<V: PlaceVisit>(
-        &mut self,
-        id: u64,
-        lot: u64,
-        visitor: &mut V,
-    ) -> Option<V::Answer>
-        requires { lot ≡ lot_of id }
+    /// Adds the attachment as the top node, in place of one of its number if there is one. It takes no memory.
+    fn put_on_top(&mut self, boxed: BoxedAttachment)
+        ensures { self.new ≡ put_in boxed self.old }
+    {
+        let more = self.cut_at(boxed.row().id);
+        let less = mem::replace(self, Branch::new());
+        let BoxedAttachment { mut node } = boxed;
+        node.less = less;
+        node.more = more;
+        self.top = Some(node);
+    }
+
+    /// Takes out the attachments whose numbers are greater than this one, with their memory. One of this number goes. It
+    /// takes no memory.
+    fn cut_at(&mut self, id: u64) -> Branch
+        ensures less { self.new ≡ filter (λ row. nat_lt row.id id) self.old }
+        ensures more { result ≡ filter (λ row. nat_lt id row.id) self.old }
+        ensures once { AreInOrder self.old }
+    {
+        let Some(mut fork) = self.top.take() else {
+            return Branch::new();
+        };
+        if comes_before(id, fork.row.id) {
+            let more = fork.less.cut_at(id);
+            *self = mem::replace(&mut fork.less, more);
+            return Branch { top: Some(fork) };
+        }
+        if comes_before(fork.row.id, id) {
+            let more = fork.more.cut_at(id);
+            self.top = Some(fork);
+            return more;
+        }
+        *self = mem::replace(&mut fork.less, Branch::new());
+        mem::replace(&mut fork.more, Branch::new())
+    }
+
+    /// Visits the place of the attachment of this number, and returns the visit's answer; `None` if there is no such
+    /// attachment, and nothing has changed then.
+    pub(crate) fn visit<V: PlaceVisit>(&mut self, id: u64, visitor: &mut V) -> Option<V::Answer>
         ensures { IsVisitedIn V.visits id visitor.old self.old result visitor.new self.new }
     {
         let Some(fork) = &mut self.top else {
@@ -187,16 +214,14 @@ impl Branch {
         if id == fork.row.id {
             return Some(visitor.visit(&mut fork.row.place));
         }
-        if comes_before(id, lot, fork.row.id, fork.lot) {
-            return fork.less.visit(id, lot, visitor);
+        if comes_before(id, fork.row.id) {
+            return fork.less.visit(id, visitor);
         }
-        fork.more.visit(id, lot, visitor)
+        fork.more.visit(id, visitor)
     }
 
-    /// Sets the place of the attachment of this number and lot, in bytes. Nothing changes if there is
-    /// no such attachment.
-    pub(crate) fn set_place(&mut self, id: u64, lot: u64, place: u64)
-        requires { lot ≡ lot_of id }
+    /// Sets the place of the attachment of this number, in bytes. Nothing changes if there is no such attachment.
+    pub(crate) fn set_place(&mut self, id: u64, place: u64)
         ensures { self.new ≡ update_first (is_attached id) (at_place place) self.old }
     {
         let Some(fork) = &mut self.top else {
@@ -206,11 +231,11 @@ impl Branch {
             fork.row.place = place;
             return;
         }
-        if comes_before(id, lot, fork.row.id, fork.lot) {
-            fork.less.set_place(id, lot, place);
+        if comes_before(id, fork.row.id) {
+            fork.less.set_place(id, place);
             return;
         }
-        fork.more.set_place(id, lot, place);
+        fork.more.set_place(id, place);
     }
 
     /// Takes out the attachments that pass the test, with their memory. It takes no memory.
@@ -265,9 +290,8 @@ impl Branch {
         }
     }
 
-    /// Takes out the attachment of this number and lot, with its memory. It takes no memory.
-    pub(crate) fn take(&mut self, id: u64, lot: u64) -> Option<BoxedAttachment>
-        requires { lot ≡ lot_of id }
+    /// Takes out the attachment of this number, with its memory. It takes no memory.
+    pub(crate) fn take(&mut self, id: u64) -> Option<BoxedAttachment>
         ensures rest { self.new ≡ filter (λ row. not (is_attached id row)) self.old }
         ensures found { result ≡ find (is_attached id) self.old }
     {
@@ -279,12 +303,12 @@ impl Branch {
                     let more = mem::replace(&mut fork.more, Branch::new());
                     *self = joined(less, more);
                     Some(BoxedAttachment { node: fork })
-                } else if comes_before(id, lot, fork.row.id, fork.lot) {
-                    let found = fork.less.take(id, lot);
+                } else if comes_before(id, fork.row.id) {
+                    let found = fork.less.take(id);
                     self.top = Some(fork);
                     found
                 } else {
-                    let found = fork.more.take(id, lot);
+                    let found = fork.more.take(id);
                     self.top = Some(fork);
                     found
                 }
@@ -293,15 +317,14 @@ impl Branch {
     }
 }
 
-/// Returns the side of the node on which an attachment of this number and lot would be.
-fn side_of(node: &Node, id: u64, lot: u64) -> &Branch
-    requires lot { lot ≡ lot_of id }
+/// Returns the side of the node on which an attachment of this number would be.
+fn side_of(node: &Node, id: u64) -> &Branch
     requires sorted { AreInOrder (rows_in node.now) }
     requires apart { (id == node.now.row.id) ≡ false }
     ensures found { find (is_attached id) (rows_in node.now) ≡ find (is_attached id) result.now }
     ensures smaller { length result.now < length (rows_in node.now) }
 {
-    if comes_before(id, lot, node.row.id, node.lot) {
+    if comes_before(id, node.row.id) {
         return &node.less;
     }
     &node.more
@@ -312,33 +335,32 @@ fn joined(less: Branch, more: Branch) -> Branch
     requires { AreInOrder (less ++ more) }
     ensures { result ≡ less ++ more }
 {
-    let mut more = more;
-    match more.take_first() {
-        None => {
-            drop(more);
-            less
-        }
-        Some(BoxedAttachment { mut node }) => {
-            node.less = less;
-            node.more = more;
-            Branch { top: Some(node) }
+    let Branch { top: less } = less;
+    let Branch { top: more } = more;
+    match (less, more) {
+        (None, more) => Branch { top: more },
+        (less, None) => Branch { top: less },
+        (Some(mut first), Some(mut second)) => {
+            if first.lot < second.lot {
+                let between = mem::replace(&mut first.more, Branch::new());
+                first.more = joined(between, Branch { top: Some(second) });
+                return Branch { top: Some(first) };
+            }
+            let between = mem::replace(&mut second.less, Branch::new());
+            second.less = joined(Branch { top: Some(first) }, between);
+            Branch { top: Some(second) }
         }
     }
 }
 
-/// Returns whether the attachment of the one number and lot comes before that of the other.
-fn comes_before(id: u64, lot: u64, other: u64, other_lot: u64) -> bool
-    requires one { lot ≡ lot_of id }
-    requires other { other_lot ≡ lot_of other }
+/// Returns whether an attachment of the one number comes before that of the other.
+fn comes_before(id: u64, other: u64) -> bool
     ensures { result ≡ comes_before id other }
 {
-    lot < other_lot || lot == other_lot && id < other
+    id < other
 }
 
-/// Returns the lot of a number. Lots spread numbers that rise, so that the tree is not deep.
-#[tactic(auto, unfolding(crate::specs::Rows::lot_of))]
-pub(crate) fn lot_of(id: u64) -> u64
-    ensures { result ≡ lot_of id }
-{
+/// Returns a number for this one. A node has a less one than those below it, so the tree is not deep if numbers rise.
+fn lot_of(id: u64) -> u64 {
     id.wrapping_mul(11_400_714_819_323_198_485)
 }

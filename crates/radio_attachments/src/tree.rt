@@ -4,12 +4,12 @@ ghost use Rattle.std.specs.Prelude.{◌≡◌, ◌≤◌, ◌==◌, false, [], �
 ghost use Rattle.radio_tables.specs.Lists.{Each, update_first};
 ghost use Rattle.radio_attachments.specs.Rows.{is_attached, at_place, put_in, lags, AreInOrder, IsVisitedIn};
 
-use crate::branch::{Branch, lot_of};
+use crate::branch::Branch;
 use crate::{Attachment, AttachmentTest, BoxedAttachment, PlaceVisit};
 use std::marker::Model;
 
 /// The attachments of a mount, each number once. Contracts see their list, in the order of their
-/// lots. A call that looks for a number takes a time that grows as the logarithm of how many there
+/// numbers. A call that looks for a number takes a time that grows as the logarithm of how many there
 /// are.
 #[derive(Drop)]
 pub struct AttachmentTree {
@@ -52,7 +52,7 @@ impl AttachmentTree {
     pub fn get(&self, id: u64) -> Option<Attachment>
         ensures { result ≡ find (is_attached id) self.now }
     {
-        self.root.get(id, lot_of(id))
+        self.root.get(id)
     }
 
     /// Visits the place of the attachment of this number, and returns the visit's answer; `None` if
@@ -60,7 +60,7 @@ impl AttachmentTree {
     pub fn visit<V: PlaceVisit>(&mut self, id: u64, visitor: &mut V) -> Option<V::Answer>
         ensures { IsVisitedIn V.visits id visitor.old self.old result visitor.new self.new }
     {
-        self.root.visit(id, lot_of(id), visitor)
+        self.root.visit(id, visitor)
     }
 
     /// Sets the place of the attachment of this number, in bytes. Nothing changes if there is no such
@@ -69,16 +69,15 @@ impl AttachmentTree {
         ensures { self.new ≡ update_first (is_attached id) (at_place place) self.old }
     {
         self.least = self.least.min(place);
-        self.root.set_place(id, lot_of(id), place);
+        self.root.set_place(id, place);
     }
 
     /// Adds the attachment, in place of one of its number if there is one. It takes no memory.
     pub fn put(&mut self, boxed: BoxedAttachment)
         ensures { self.new ≡ put_in boxed self.old }
     {
-        let row = boxed.row();
-        self.least = self.least.min(row.place);
-        self.root.put(boxed, lot_of(row.id));
+        self.least = self.least.min(boxed.row().place);
+        self.root.put(boxed);
     }
 
     /// Takes out the attachment of this number, with its memory. It takes no memory.
@@ -86,7 +85,7 @@ impl AttachmentTree {
         ensures rest { self.new ≡ filter (λ row. not (is_attached id row)) self.old }
         ensures found { result ≡ find (is_attached id) self.old }
     {
-        self.root.take(id, lot_of(id))
+        self.root.take(id)
     }
 
     /// Takes out the first attachment, with its memory. It takes no memory.

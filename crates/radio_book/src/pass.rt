@@ -10,7 +10,7 @@ use crate::receipt::NOWHERE;
 use crate::{Chronicle, Origin, Receipt, Stamp};
 use radio_events::{Event, Reply};
 use std::alloc::Global;
-use std::collections::BTreeMap;
+use std::collections::HashMap;
 use std::marker::{Model, PhantomData};
 
 /// What a caller of a server has: the receipts of its calls, in their order, if the server stores entries; and the right
@@ -18,7 +18,7 @@ use std::marker::{Model, PhantomData};
 pub struct Pass<C: Chronicle, H: Origin> {
     pub(crate) holdings: Holdings<H>,
     /// Of a client or a relay by its number: the list of the mount where it was attached last. It may be somewhere else by now.
-    whereabouts: BTreeMap<u64, u64>,
+    whereabouts: HashMap<u64, u64>,
     of: PhantomData<C>,
 }
 
@@ -49,7 +49,7 @@ impl<C: Chronicle, H: Origin> Pass<C, H> {
     {
         Pass {
             holdings,
-            whereabouts: BTreeMap::new(alloc),
+            whereabouts: HashMap::new(alloc),
             of: PhantomData,
         }
     }

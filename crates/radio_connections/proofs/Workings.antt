@@ -1,6 +1,6 @@
 -- What a connection does on which nothing is pending.
 use Rattle.std.proofs.Common.{◌≡◌, inl, inr, ◌≤◌, ◌-◌, arith, ℕ, Bool, List, ap}
-use Rattle.std.proofs.Common.{[], ◌++◌, refl, sym, subst, ◌∙◌}
+use Rattle.std.proofs.Common.{[], ◌++◌, append-nil, refl, sym, subst, ◌∙◌}
 use Rattle.radio_events.specs.declared.entry.Entry.{Entry}
 use Rattle.radio_events.specs.Servers.{Steps}
 use Rattle.radio_connections.specs.Connections.{Connection}
@@ -9,7 +9,8 @@ use Rattle.radio_connections.specs.Duties.{IsReadOnce, LacksMemory}
 use Rattle.radio_connections.specs.Duties.{HasEnded, WasClosed, LineHasEnded, AreAtMostHeard, IsAtMostDraw, draw_room_for}
 use Rattle.radio_connections.specs.Serving.{IsServed, EndsWithDraw}
 use Rattle.radio_connections.specs.Answering.{IsUnwritten}
-use Rattle.radio_connections.specs.Leaving.{StaysEnded, IsSparedBefore, Listens, Works, Draws}
+use Rattle.radio_connections.specs.Leaving.{StaysEnded, IsFlushed, IsSparedBefore, Listens, Works, Draws}
+use Rattle.radio_connections.specs.Leaving.WriteIsNoted.{TookNone}
 use Rattle.radio_connections.proofs.Calling.{later_none, lacks_on, ended_on, unread_same, once_between}
 use Rattle.radio_connections.proofs.Deeds.{not_over, served_then, served_by_none}
 use Rattle.std.proofs.lemmas.Bool.{false≢true}
@@ -143,3 +144,23 @@ module _ {S : Type 0} (steps : Steps S) where
     asked_for = λ goes long none. absurd (rests goes);
     asking = record { some = λ goes some. absurd (rests goes); none = λ goes none. refl };
   }
+
+-- one on which nothing is pending is as it was when it was written to
+pub flushed_none : {ms : ℕ} {c : Connection} → c.outgoing ≡ [] → IsFlushed ms c c
+flushed_none {ms} {c} none = record {
+  served = served_by_none c c refl (later_none c) (λ arrival past st. st);
+  goes = λ goes. goes;
+  sits = refl;
+  none = λ is. is;
+  all = λ is. sym (append-nil c.taken) ∙ ap (λ (xs : List ℕ). c.taken ++ xs) (sym is);
+  idle = λ is. refl;
+  unread = record { reads = refl; room = refl };
+  session = refl;
+  given = λ written owed. absurd (owed none);
+  cut = λ is. inl is;
+  fate = λ other. refl;
+  noted = TookNone refl refl;
+  given_same = refl;
+  closings = refl;
+  faults = λ other. refl;
+}

@@ -164,6 +164,15 @@ module _ {S : Type 0} (steps : Steps S) where
     pub noted : c'.status ≡ record c.status { has_left = c'.status.has_left }
     pub left : ClientHasLeft c c'
 
+  -- its client has left if it is over, it was written to at this moment, and its client has left if it is over then
+  pub record EndsTurn (ms : ℕ) (from : S) (c : Connection) (to : S) (c' : Connection) : Type 0 where
+    pub mid : S
+    pub left : Connection
+    pub flushed : Connection
+    pub leaves : Leaves from c mid left
+    pub flushes : IsFlushed ms left flushed
+    pub again : Leaves mid flushed to c'
+
   -- a draw with this room was applied, or the connection was cut off
   pub record DrawsFor (room : ℕ) (from : S) (c : Connection) (to : S) (c' : Connection) : Type 0 where
     pub entries : List Entry

@@ -1,7 +1,6 @@
 //! What was refused to a connection for want of memory, which only proofs read. It takes no memory.
 
 ghost use Rattle.std.specs.Prelude.{◌≡◌, IfOk, OnErr};
-ghost use Rattle.radio_events.specs.declared.event.Event.TheVariants.{Draw};
 ghost use Rattle.radio_connections.specs.Connections.{no_refusals, one_refusal, refused_one};
 
 use crate::history::History;
@@ -61,26 +60,8 @@ impl Refusals {
         }
     }
 
-    /// Draws for the listener of this number, which has room for so many bytes, as [`Refusals::apply`] applies an event.
-    pub(crate) fn draw<S: Server>(
-        &mut self,
-        server: &mut S,
-        id: u64,
-        room: u32,
-    ) -> Result<Reply, OutOfMemory>
-        ensures ok { IfOk result (λ reply. S.steps server.old (Draw id room) reply server.new) }
-        ensures none { IfOk result (λ _. self.new ≡ self.old) }
-        ensures err { OnErr result (server.new ≡ server.old) }
-        ensures one { OnErr result (self.new ≡ one_refusal (Draw id room) self.old) }
-    {
-        let drawn = server.draw(id, room);
-        if drawn.is_err() {
-            self.count(false);
-        }
-        drawn
-    }
-
-    fn count(&mut self, leaves: bool)
+    /// Counts an event that was refused, and whether by it a client was to leave.
+    pub(crate) fn count(&mut self, leaves: bool)
         ensures { self.new ≡ refused_one leaves self.old }
     {
         self.events.note(&[0]);

@@ -9,6 +9,7 @@ use Rattle.std.specs.Cmp.Lexicographic.{slice_cmp, nat_list_cmp_total}
 use Rattle.std.specs.BTreeMap.{is_at, insert_entry}
 use Rattle.std.specs.Map.{lookup, remove_entry}
 use Rattle.std.specs.FinMap as finite
+use Rattle.std.specs.List.{AllZip}
 use Rattle.std.specs.FinMap.{get-from_entries, get-insert, get-remove, find, same_map, nat_cmp-IsAntisymmetric, slice_cmp-IsAntisymmetric}
 use Rattle.radio_creds.specs.UserList.{listed, UserList, with_line}
 
@@ -53,6 +54,15 @@ module _ {K : Type 0} (read : K → List ℕ) where
   pub get-listed : (user : List ℕ) (entries : List (K × List ℕ))
       → finite.get (finite.from_entries {R = slice_cmp nat_cmp} (listed read entries)) user ≡ lookup (is_at (λ key. slice_cmp nat_cmp user (read key))) entries
   get-listed user entries = get-from_entries nat_list_cmp_total _ user ∙ find-listed user entries
+
+  -- entries whose keys read the same, and which have the same digests
+  pub listed-cloned : (C : K → K → Type 0) (D : List ℕ → List ℕ → Type 0) → ((k l : K) → C k l → read l ≡ read k) → ((v w : List ℕ) → D v w → w ≡ v)
+      → (entries others : List (K × List ℕ)) → AllZip (λ e f. C e.0 f.0 × D e.1 f.1) entries others → listed read others ≡ listed read entries
+  listed-cloned C D keys values [] [] h = refl
+  listed-cloned C D keys values [] (f ∷ fs) h = absurd h
+  listed-cloned C D keys values (e ∷ es) [] h = absurd h
+  listed-cloned C D keys values (e ∷ es) (f ∷ fs) h =
+      rw (keys e.0 f.0 h.0.0, values e.1 f.1 h.0.1, listed-cloned C D keys values es fs h.1) refl
 
   find-inserted : (q : List ℕ) (k : K) (v : List ℕ) (entries : List (K × List ℕ))
       → find (slice_cmp nat_cmp) q (listed read (insert_entry (λ x y. order (read x) (read y)) entries k v))

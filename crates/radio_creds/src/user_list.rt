@@ -136,6 +136,16 @@ impl Users {
     }
 }
 
+impl Clone for Users {
+    ghost is_clone = { λ users other. other ≡ users };
+
+    fn clone(&self) -> Result<Users, OutOfMemory> {
+        Ok(Users {
+            digests: self.digests.clone()?,
+        })
+    }
+}
+
 /// Shows neither users nor digests.
 impl fmt::Debug for Users {
     fn fmt<W: fmt::Write>(&self, f: &mut fmt::Formatter<W>) -> fmt::Result {

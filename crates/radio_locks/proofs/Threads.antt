@@ -21,6 +21,7 @@ use Rattle.boxcar.specs.contracts.table.Table as table_of
 use Rattle.boxcar.specs.contracts.vec.Vec as row_of
 use Rattle.boxcar.proofs.slot.OnceSlot.TheSendSync as slot
 use Rattle.boxcar.proofs.tag.Tag.TheSendSync as tag
+use Rattle.radio_access.proofs.lists.Lists.TheSendSync as lists
 use Rattle.radio_book.proofs.Threads.{book_send, mount_book_send}
 use Rattle.radio_book.specs.contracts.mount_book.MountBook as mount_book
 use Rattle.radio_chronicle.specs.declared.chronicle.Chronicle as chronicle
@@ -28,6 +29,8 @@ use Rattle.radio_chronicle.specs.declared.origin.Origin as origin
 use Rattle.radio_locks.proofs.mount_lists.MountLists.TheSendSync as mount_lists
 use Rattle.radio_locks.specs.contracts.hall.Hall as hall
 use Rattle.radio_locks.specs.contracts.locked_control.LockedControl as locked_control
+use Rattle.radio_locks.specs.contracts.opening.Opening as opening
+use Rattle.radio_settings_values.proofs.settings.Settings.TheSendSync as settings
 
 -- threads may share a struct, if they may share each of its fields
 declared_sync : (T : Declared) → AllSync (fields T) → IsSync (row T)
@@ -38,10 +41,13 @@ declared_send : (T : Declared) → AllSend (fields T) → IsSend (row T)
 declared_send T sends = recorded_send (Struct (shape T)) T.D T.to T.to_one (struct_send (shape T) sends)
 
 module _ (C H : RattleType) (c : chronicle.Ghosts C.Denot) (h : origin.Ghosts H.Denot) (l : ledger.Ghosts H.Denot) where
+  opening_send : IsSend C → IsSend H → IsSend (opening.the_field C H c h l).row
+  opening_send sc sh = search (sendable, crosses, settings.the_send, lists.the_send) depth 12
+
   locked_control_send : IsSend C → IsSend H → IsSend (locked_control.the_row C H c h l)
   locked_control_send sc sh =
       declared_send (locked_control.the_type C H c h l)
-      (book_send C H c h l sc sh, (search (sendable, crosses, mount_book_send) depth 20, (mount_lists.the_send, (search sendable depth 8, tt))))
+      (book_send C H c h l sc sh, (search (sendable, crosses, mount_book_send) depth 20, (mount_lists.the_send, (search sendable depth 8, (opening_send sc sh, tt)))))
 
   mount_lock_send : IsSend C → IsSend (mutex_of.the_row (option_of.the_row (mount_book.the_row C c)))
   mount_lock_send sc = search (sendable, mutex.the_send, mount_book_send) depth 12

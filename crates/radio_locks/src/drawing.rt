@@ -2,6 +2,7 @@
 
 ghost use Rattle.std.specs.Prelude.{◌≡◌, false, IfOk};
 ghost use Rattle.radio_events.specs.declared.event.Event.TheVariants.{Draw};
+ghost use Rattle.radio_locks.specs.Callers.{IsResultOfStep};
 ghost use Rattle.radio_locks.specs.Replies.{IsReplied, IsRepliedIf};
 
 use crate::{Hall, OutOfMemory};
@@ -24,10 +25,28 @@ impl<C: Chronicle, H: Origin> Hall<C, H> {
         ensures pass { pass.new ≡ pass.old }
     {
         if let Some(list) = pass.list_of(id) {
-            if let Some(reply) = self.draw_at(rt, list, id, room)? {
-                return Ok(reply);
+            // the reply is large, and moved once
+            match self.draw_at(rt, list, id, room) {
+                Ok(Some(reply)) => return Ok(reply),
+                Ok(None) => (),
+                Err(refused) => return Err(refused),
             }
         }
+        self.find_draw(rt, pass, id, room)
+    }
+
+    /// Draws where the control knows the client, as [`Hall::find`]. Few draws come here, so their event is made here.
+    #[cold]
+    #[inline(never)]
+    fn find_draw<R: Wait>(
+        &self,
+        rt: &R,
+        pass: &mut Pass<C, H>,
+        id: u64,
+        room: u32,
+    ) -> Result<Reply, OutOfMemory>
+        ensures { IsResultOfStep C.KEEPS H.opening pass.old (Draw id room) result pass.new }
+    {
         self.find(rt, pass, id, Event::Draw { id, room })
     }
 
@@ -46,9 +65,9 @@ impl<C: Chronicle, H: Origin> Hall<C, H> {
             return Ok(None);
         };
         let mut guard = lock.lock(rt);
-        match &mut *guard {
-            Some(book) => book.draw(id, room),
-            None => Ok(None),
-        }
+        let Some(book) = &mut *guard else {
+            return Ok(None);
+        };
+        book.draw(id, room)
     }
 }

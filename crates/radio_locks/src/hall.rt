@@ -13,7 +13,6 @@ ghost use Rattle.radio_locks.specs.Replies.{IsReplyOrElsewhere};
 use crate::OutOfMemory;
 use crate::concerned::mount_in;
 use crate::locked_control::LockedControl;
-use crate::mount_lists::MountLists;
 use crate::mount_locks::MountLock;
 use radio_access::Lists;
 use radio_book::{Book, Chronicle, MountBook, Origin, Own, Pass, Receipt, leaver_of};
@@ -34,12 +33,13 @@ const TRIES: u32 = 64;
 pub struct Hall<C: Chronicle, H: Origin> {
     pub(crate) alloc: Global,
     pub(crate) queue: u64,
-    control: Mutex<LockedControl<C, H>>,
+    pub(crate) control: Mutex<LockedControl<C, H>>,
     pub(crate) mounts: boxcar::Vec<MountLock<C>>,
 }
 
 impl<C: Chronicle, H: Origin> Hall<C, H> {
-    /// Returns a server of these settings and lists, in which nothing has happened yet. `OutOfMemory` if memory was refused.
+    /// Returns a server of these settings and lists, in which nothing has happened yet. If entries are stored, it keeps copies of both
+    /// for who settles it. `OutOfMemory` if memory was refused.
     // rule: Legal history
     pub fn new(
         alloc: Global,
@@ -51,17 +51,12 @@ impl<C: Chronicle, H: Origin> Hall<C, H> {
         requires ledger { (blank.name ≡ H.name) × (blank.parts ≡ H.parts) × (blank.parts ≡ 2 ^ 32) }
     {
         let queue = queue_of(&settings);
-        let control = Book::new(alloc, settings, lists, blank);
+        let control = LockedControl::new(alloc, settings, lists, blank)?;
         match boxcar::Vec::new(alloc) {
             Ok(mounts) => Ok(Hall {
                 alloc,
                 queue,
-                control: Mutex::new(LockedControl {
-                    control,
-                    lent: Vec::new(alloc),
-                    lists: MountLists::new(alloc),
-                    has_set_fallback: false,
-                }),
+                control: Mutex::new(control),
                 mounts,
             }),
             Err(refused) => {
@@ -265,59 +260,11 @@ impl<C: Chronicle, H: Origin> Hall<C, H> {
         gate.let_go(0);
         drop(book);
     }
-
-    /// Returns the control's book and those of the mounts, in the order of their lists, when nobody calls any more; `None` for a lock
-    /// that holds nothing. `OutOfMemory` if memory was refused.
-    pub fn into_books(self) -> Result<(Book<C, H>, Vec<Option<MountBook<C>>>), OutOfMemory> {
-        let Hall {
-            alloc,
-            queue: _,
-            control,
-            mounts,
-        } = self;
-        let LockedControl {
-            control,
-            lent,
-            lists,
-            ..
-        } = control.into_inner();
-        drop(lent);
-        drop(lists);
-        let mut books = Vec::new(alloc);
-        match take_each(&mounts, &mut books) {
-            Ok(()) => {
-                drop(mounts);
-                Ok((control, books))
-            }
-            Err(refused) => {
-                drop(mounts);
-                drop(control);
-                drop(books);
-                Err(refused)
-            }
-        }
-    }
 }
 
 /// Returns how many bytes of a stream are kept at least.
 fn queue_of(settings: &Settings) -> u64 {
     settings.limits.queue_size.get() as u64
-}
-
-/// Takes each mount's book out of its lock, if it is there and nobody has the lock.
-fn take_each<C: Chronicle>(
-    mounts: &boxcar::Vec<MountLock<C>>,
-    books: &mut Vec<Option<MountBook<C>>>,
-) -> Result<(), OutOfMemory> {
-    books.reserve(mounts.count())?;
-    for (_, lock) in mounts {
-        let book = match lock.try_lock() {
-            Some(mut guard) => guard.take(),
-            None => None,
-        };
-        books.push(book)?;
-    }
-    Ok(())
 }
 
 /// An event of the control over what is lent, unless memory was refused for a mount's book.

@@ -2,6 +2,7 @@
 //!
 //! - [`Hall`]: the locks; [`Hall::apply`] is one event. Read it first.
 //! - [`Caller`]: whom a worker asks, of `radio_events`: a hall is a [`SharedServer`](radio_events::SharedServer).
+//! - [`HallBooks`]: what a hall has stored, once nobody calls it any more.
 //! - [`passes_gain_what_was_applied`]: a law, which runs no code.
 //!
 //! Order of the locks: the control's before a mount's. Whoever holds a mount's lock waits for no other, so there is no cycle.
@@ -12,14 +13,17 @@ mod callers;
 mod concerned;
 mod drawing;
 mod hall;
+mod hall_books;
 mod laws;
 mod list_numbers;
 mod locked_control;
 mod mount_lists;
 mod mount_locks;
+mod opening;
 mod reach;
 
 pub use hall::Hall;
+pub use hall_books::HallBooks;
 pub use laws::passes_gain_what_was_applied;
 pub use radio_events::Caller;
 

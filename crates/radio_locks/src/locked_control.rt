@@ -1,17 +1,24 @@
 //! What the control's lock guards.
 
-ghost use Rattle.std.specs.Prelude.{◌≡◌, ℕ, true, false, vec_len};
+ghost use Rattle.std.specs.Prelude.{◌≡◌, ◌^◌, ℕ, true, false, vec_len};
 ghost use Rattle.radio_book.specs.Receipts.{has_fed};
 ghost use Rattle.radio_events.specs.declared.event.Event.TheVariants.{Leave};
 ghost use Rattle.radio_locks.specs.Concerned.{IsOneAtMost};
+ghost use Rattle.radio_parts_station.specs.World.{opening};
 
+use crate::OutOfMemory;
 use crate::concerned::Concerned;
 use crate::mount_lists::MountLists;
+use crate::opening::Opening;
+use radio_access::Lists;
 use radio_book::{Book, Chronicle, MountBook, Origin, Pass};
 use radio_events::Event;
+use radio_settings_values::Settings;
+use std::alloc::Global;
+use std::sync::ledger::Blank;
 
-/// The control's book, the books that are lent, of which there is none whenever the lock is free, and the list of each mount that
-/// has a book.
+/// The control's book, the books that are lent, of which there is none whenever the lock is free, the list of each mount that has a
+/// book, and with what the hall was opened.
 #[derive(Drop)]
 pub(crate) struct LockedControl<C: Chronicle, H: Origin> {
     pub(crate) control: Book<C, H>,
@@ -19,10 +26,39 @@ pub(crate) struct LockedControl<C: Chronicle, H: Origin> {
     pub(crate) lists: MountLists,
     /// Whether a command has set the fallback of a mount.
     pub(crate) has_set_fallback: bool,
+    pub(crate) opened: Opening<C, H>,
     pub(crate) ghost none: { vec_len lent ≡ 0 },
 }
 
 impl<C: Chronicle, H: Origin> LockedControl<C, H> {
+    /// Returns a control of these settings and lists, to which nothing has happened yet. `OutOfMemory` if memory was refused.
+    // rule: Legal history
+    pub(crate) fn new(
+        alloc: Global,
+        settings: Settings,
+        lists: Lists,
+        blank: Blank,
+    ) -> Result<LockedControl<C, H>, OutOfMemory>
+        requires opening { H.opening ≡ opening settings lists }
+        requires ledger { (blank.name ≡ H.name) × (blank.parts ≡ H.parts) × (blank.parts ≡ 2 ^ 32) }
+    {
+        match Opening::new(&settings, &lists) {
+            Ok(opened) => Ok(LockedControl {
+                control: Book::new(alloc, settings, lists, blank),
+                lent: Vec::new(alloc),
+                lists: MountLists::new(alloc),
+                has_set_fallback: false,
+                opened,
+            }),
+            Err(refused) => {
+                drop(settings);
+                drop(lists);
+                drop(blank);
+                Err(refused)
+            }
+        }
+    }
+
     /// Returns the list of the mount that the client or relay feeds, or where it sits, or sat last, if there is one.
     pub(crate) fn list_of(&self, id: u64) -> Option<u64> {
         let mount = self.control.place_of(id)?;

@@ -1,20 +1,20 @@
 -- what all mounts have in common changes by the event and its reply alone
-use Rattle.std.proofs.Common.{◌≡◌, ◌∙◌, ◌+◌, Bool, true, false, ℕ, Option, None, Some, List, [], ◌∷◌, Result, Ok, Err, IfOk, OnOk, refl, ap, sym, subst}
-use Rattle.std.specs.Prelude.{fold, map, nat_lt, if◌then◌else◌}
+use Rattle.std.proofs.Common.{◌≡◌, ◌∙◌, ◌+◌, Bool, true, false, ℕ, Option, None, Some, List, [], ◌∷◌, refl, ap, sym, subst}
+use Rattle.std.specs.Prelude.{fold, nat_lt, if◌then◌else◌}
 use Rattle.radio_parts_changes.specs.Changes.{answered, before_silence, session_begun, session_killed, session_raised, session_silenced, silent_in}
 use Rattle.radio_parts_changes.specs.KeptChanges.{kept_changed}
 use Rattle.radio_parts_changes.specs.declared.change.Change.{Change}
 use Rattle.radio_parts_changes.specs.declared.change.Change.TheVariants.{Obey}
-use Rattle.radio_parts.proofs.PlannedLemmas.{planned_so}
+use Rattle.radio_parts.proofs.PlannedLemmas.{planned_so, clock_planned}
 use Rattle.radio_parts.proofs.Ways.{way_of}
-use Rattle.radio_parts_changes.specs.Counts.{counted, counts_by, nobody}
+use Rattle.radio_parts_changes.specs.Counts.{counts_by, nobody}
 use Rattle.radio_parts.proofs.CalledStation.{station_called}
 use Rattle.radio_parts.specs.Allowed.{IsCommanded}
 use Rattle.radio_parts.specs.CanStep.{CanStep}
+use Rattle.radio_parts.specs.Clock.{hears_clock}
 use Rattle.radio_parts.specs.Closing.{Closes, OfClient, OfRelay}
 use Rattle.radio_parts.specs.Command.{said_of}
 use Rattle.radio_parts.specs.Common.{Common, common_after, common_asked, common_at, common_done, common_numbered, common_of, common_told}
-use Rattle.radio_parts.specs.ControlSteps.{three_of}
 use Rattle.radio_parts.specs.Draw.{moves_to, IsMove}
 use Rattle.radio_parts.specs.Pages.{IsShownBy, IsListing, IsAtPath}
 use Rattle.radio_parts.specs.Planned.{planned, told_counts, with_counts}
@@ -196,19 +196,8 @@ module _ (w : World) where
   common_worked_out (RelayDown id) o counts worked drawn = common_if_so (RelayDown id) o counts (worked tt)
   common_worked_out (Clock ms) o counts worked drawn = common_if_so (Clock ms) o counts (worked tt)
 
-  -- a change was made, and its reply names the number
-  pub common_committed : {E : Type 0} (event : Event) (o : Outcome) (result : Result Reply E) (later : World) → (CanStep w event → o ≡ planned w event)
-      → ((id room : ℕ) → event ≡ Draw id room → IsMove id o.change) → OnOk result (later ≡ kept_changed w o.change)
-      → IfOk result (λ reply. reply ≡ with_counts o.reply (counted w o.change)) → IfOk result (λ reply. common_of later ≡ common_after (common_of w) event reply)
-  common_committed event o (Err refused) later worked drawn changes told = tt
-  common_committed event o (Ok reply) later worked drawn changes told =
-      ap common_of changes ∙ common_worked_out event o (counted w o.change) worked drawn ∙ ap (common_after (common_of w) event) (sym told)
-
-  -- and so with three replies
-  pub common_committed3 : {E : Type 0} (event : Event) (o : Outcome) (result : Result (List Reply) E) (later : World) → (CanStep w event → o ≡ planned w event)
-      → ((id room : ℕ) → event ≡ Draw id room → IsMove id o.change) → OnOk result (later ≡ kept_changed w o.change)
-      → IfOk result (λ told. told ≡ map (λ (reply : Reply). with_counts reply (counted w o.change)) (three_of o.reply))
-      → IfOk result (λ replies. (reply : Reply) × (replies ≡ three_of reply) × (common_of later ≡ common_after (common_of w) event reply))
-  common_committed3 event o (Err refused) later worked drawn changes told = tt
-  common_committed3 event o (Ok replies) later worked drawn changes told =
-      (with_counts o.reply (counted w o.change), told, ap common_of changes ∙ common_worked_out event o (counted w o.change) worked drawn)
+  -- a clock
+  pub common_clocked : (ms : ℕ) → common_of (kept_changed w (hears_clock w ms).change) ≡ common_after (common_of w) (Clock ms) Noted
+  common_clocked ms =
+      subst (λ (p : Outcome). common_of (kept_changed w p.change) ≡ common_after (common_of w) (Clock ms) (with_counts p.reply nobody)) (clock_planned w ms)
+      (common_planned (Clock ms) nobody)

@@ -11,6 +11,7 @@ use Rattle.radio_events.specs.declared.text.ReplyText.{ReplyText}
 use Rattle.radio_fallback.specs.declared.moves.Carried.{Carried}
 use Rattle.radio_parts.specs.declared.outcome.Outcome.{Outcome}
 use Rattle.radio_parts.specs.Command.{obeys}
+use Rattle.radio_parts.specs.Clock.{hears_clock}
 use Rattle.radio_parts.specs.Draw.{draws}
 use Rattle.radio_parts.specs.Pages.{IsShownBy}
 use Rattle.radio_parts_changes.specs.Counts.{counted, nobody}
@@ -72,6 +73,10 @@ module _ (w : World) where
   pub draw_planned : (id room : ℕ) → planned w (Draw id room) ≡ draws w id room
   unfolding planned outcome
   draw_planned id room = refl
+
+  pub clock_planned : (ms : ℕ) → planned w (Clock ms) ≡ hears_clock w ms
+  unfolding planned outcome
+  clock_planned ms = refl
 
   abbrev IsCompleted : Outcome → Type 0
   IsCompleted o = with_counts (uncounted o).reply (counted w o.change) ≡ o.reply

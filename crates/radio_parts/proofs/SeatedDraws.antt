@@ -1,5 +1,6 @@
 -- the outcome of a draw, by a client with a seat and by a client without one
-use Rattle.std.proofs.Common.{◌≡◌, ℕ, Option, None, Some, refl, ap, ◌∙◌}
+use Rattle.std.proofs.Common.{◌≡◌, ℕ, List, Option, None, Some, refl, ap, sym, ◌∙◌}
+use Rattle.radio_seats_rows.specs.declared.seat.Listener.{Listener}
 use Rattle.radio_seats_rows.specs.declared.seat.Seat.{Seat}
 use Rattle.radio_seats_rows.specs.Seats.{seat_of}
 use Rattle.radio_parts_station.specs.StationState.{StationState}
@@ -8,6 +9,10 @@ use Rattle.radio_parts_station.specs.World.{World, standing_of}
 use Rattle.radio_parts_station.specs.declared.standing.Standing.{Standing}
 use Rattle.radio_parts_station.specs.declared.standing.Standing.TheVariants.{Unknown, Undecided, Feeds, Sits, Answered, Finished}
 use Rattle.radio_parts_changes.specs.declared.change.Change.TheVariants.{Nothing}
+use Rattle.radio_parts_mount.specs.Sessions.{session_of}
+use Rattle.radio_parts_mount.specs.Steps.{IsKept}
+use Rattle.radio_parts.specs.declared.outcome.Outcome.{Outcome}
+use Rattle.radio_parts.specs.CanStep.{MayDraw}
 use Rattle.radio_parts.specs.Draw.{hands_out, draws}
 use Rattle.radio_parts.specs.Outcomes.{if_sitting, out_of_place}
 use Rattle.radio_parts.proofs.DrawLemmas.{hands_out_at, draws_so}
@@ -21,6 +26,13 @@ pub draws_seated : (w : World) (id room : ℕ) (seat : Seat) → standing_of w i
     → draws w id room ≡ hands_out id seat room (heard_at w.station seat.mount)
 draws_seated w id room seat sits has =
     draws_so w id room ∙ draws_at (standing_of w id) (seat_of w.seats id) w.station id room seat sits has
+
+-- what was worked out from the seat and the session that were looked up is the draw
+pub drawn_so : (w : World) (id room : ℕ) (seats : List Listener) (seat : Seat) (o : Outcome) → seats ≡ w.seats → seat_of seats id ≡ Some seat → MayDraw w id
+    → (IsKept (session_of w.station.live seat.mount) seat.place → o ≡ hands_out id seat room (heard_at w.station seat.mount)) → draws w id room ≡ o
+drawn_so w id room seats seat o same found can worked =
+    let has : seat_of w.seats id ≡ Some seat = ap (λ (all : List Listener). seat_of all id) (sym same) ∙ found in
+    draws_seated w id room seat (can.sits seat has) has ∙ sym (worked (can.kept seat has))
 
 -- a draw without a seat is out of place
 draws_by : (s : Standing) (station : StationState) (id room : ℕ) → if_sitting s (hands_out_at station id room None) ≡ out_of_place s

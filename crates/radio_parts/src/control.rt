@@ -1,16 +1,14 @@
 //! The outcome of an event in the state, and the state after it.
 
-ghost use Rattle.std.specs.Prelude.{◌≡◌, ℕ, true, map, IsOk, IfOk, OnOk, OnErr};
+ghost use Rattle.std.specs.Prelude.{◌≡◌, ℕ, IsOk, IfOk, OnOk, OnErr};
 ghost use Rattle.std.specs.Option.{option_copied};
-ghost use Rattle.radio_seats_rows.specs.Seats.{last_mount_of, sits_at};
+ghost use Rattle.radio_seats_rows.specs.Seats.{last_mount_of};
 ghost use Rattle.radio_parts_facts.specs.Wanted.{wanted};
 ghost use Rattle.radio_parts_station.specs.World.{opening, standing_of, has_relay};
-ghost use Rattle.radio_parts_changes.specs.Changes.{ChangeTakesNoMemory};
-ghost use Rattle.radio_parts_changes.specs.Counts.{counted};
 ghost use Rattle.radio_parts_changes.specs.KeptChanges.{kept_changed};
 ghost use Rattle.radio_parts.specs.Common.{common_after, common_of};
-ghost use Rattle.radio_parts.specs.Draw.{draws, moves_to, IsMove};
-ghost use Rattle.radio_parts.specs.Planned.{planned, with_counts};
+ghost use Rattle.radio_parts.specs.Draw.{draws, IsMove};
+ghost use Rattle.radio_parts.specs.Planned.{planned};
 ghost use Rattle.radio_parts.specs.CanStep.{MayDraw, CanStep};
 ghost use Rattle.radio_parts.specs.ControlSteps.{control_after, control_reply, three_of};
 ghost use Rattle.radio_events.specs.declared.event.Event.{Event as EventOf};
@@ -23,15 +21,15 @@ use crate::outcome::Outcome;
 use crate::replies::thrice;
 use crate::telling::{all_with_counts, with_counts};
 use radio_access::Lists;
-use radio_blocks::Place;
 use radio_events::{Event, Reply};
-use radio_parts_changes::{Change, TimedState};
+use radio_parts_changes::ServerState;
 use radio_parts_facts::wanted;
+use radio_parts_mount::LAST_MOMENT;
 use radio_parts_station::{Standing, StationState};
 use radio_parts_table::{Hearing, Listeners};
 use radio_settings_values::Settings;
 use radio_values::MountName;
-use std::alloc::Global;
+use std::alloc::{AllocError, Global};
 use std::marker::Model;
 
 /// What all mounts share, the table of listeners, and the parts of the mounts that are here. These are all parts, or
@@ -41,18 +39,25 @@ use std::marker::Model;
 /// Contracts see it as a `World` that has only the last blocks of each stream.
 pub struct Control {
     pub(crate) alloc: Global,
-    pub(crate) state: TimedState,
+    pub(crate) state: ServerState,
+    /// Each client, each listener and each session is due then or later: a clock before it ends nothing.
+    pub(crate) due_from: u64,
 }
 
 impl Drop for Control {
     fn drop(self) {
-        let Control { alloc: _, state } = self;
+        let Control {
+            alloc: _,
+            state,
+            due_from: _,
+        } = self;
         drop(state);
     }
 }
 
 impl Model for Control {
     ghost use Rattle.radio_parts_station.specs.World.{World};
+    ghost use Rattle.radio_parts_changes.specs.Due.{IsDueFrom};
     ghost use Rattle.std.specs.Coded.{codes};
     ghost use Rattle.radio_creds.specs.contracts.user_list.Users as creds_users;
 
@@ -61,6 +66,8 @@ impl Model for Control {
     ghost coded = { Prim.hlevel (codes, creds_users.the_row.coded) };
 
     ghost view = { λ c. c.state };
+
+    ghost invariant = { λ c. IsDueFrom c.due_from c.state };
 }
 
 impl Control {
@@ -70,7 +77,8 @@ impl Control {
     {
         Control {
             alloc,
-            state: TimedState::new(alloc, settings, lists),
+            state: ServerState::new(alloc, settings, lists),
+            due_from: LAST_MOMENT,
         }
     }
 
@@ -150,6 +158,10 @@ impl Control {
     {
         match event {
             Event::Draw { id, room } => self.step_drawing(id, room),
+            Event::Clock { ms } => {
+                self.step_clock(ms);
+                Ok(Reply::Noted)
+            }
             other @ (Event::Arrive { .. }
             | Event::Source(_)
             | Event::Push { .. }
@@ -159,8 +171,15 @@ impl Control {
             | Event::Command(_)
             | Event::Leave { .. }
             | Event::RelayUp { .. }
-            | Event::RelayDown { .. }
-            | Event::Clock { .. }) => self.step_by_outcome(other),
+            | Event::RelayDown { .. }) => {
+                let Outcome { reply, change } = self.outcome(other)?;
+                self.due_from = self.due_from.min(self.state.due_by(&change));
+                let Ok(counts) = self.state.commit(self.alloc, change) else {
+                    drop(reply);
+                    return Err(AllocError);
+                };
+                Ok(with_counts(reply, counts))
+            }
         }
     }
 
@@ -175,12 +194,33 @@ impl Control {
         ensures err { OnErr result (self.new ≡ self.old) }
         ensures frees { EventTakesNoMemory event → IsOk result }
     {
-        let Outcome { reply, change } = self.outcome(event)?;
-        match thrice(reply) {
-            Ok(replies) => self.commit_for_each(change, replies),
-            Err(refused) => {
-                drop(change);
-                Err(refused)
+        match event {
+            Event::Clock { ms } => {
+                self.step_clock(ms);
+                Ok([Reply::Noted, Reply::Noted, Reply::Noted])
+            }
+            other @ (Event::Arrive { .. }
+            | Event::Source(_)
+            | Event::Push { .. }
+            | Event::SourceEnd { .. }
+            | Event::Title { .. }
+            | Event::Listen(_)
+            | Event::Draw { .. }
+            | Event::Command(_)
+            | Event::Leave { .. }
+            | Event::RelayUp { .. }
+            | Event::RelayDown { .. }) => {
+                let Outcome { reply, change } = self.outcome(other)?;
+                let Ok(replies) = thrice(reply) else {
+                    drop(change);
+                    return Err(AllocError);
+                };
+                self.due_from = self.due_from.min(self.state.due_by(&change));
+                let Ok(counts) = self.state.commit(self.alloc, change) else {
+                    drop(replies);
+                    return Err(AllocError);
+                };
+                Ok(all_with_counts(replies, counts))
             }
         }
     }
@@ -198,68 +238,11 @@ impl Control {
         let Hearing { seat, session } = hearing;
         let mount = *seat.mount;
         let Drawing { reply, place } = self.hand_out(id, seat, session, room)?;
-        self.advance_at(&mount, id, place);
+        let Some(place) = place else {
+            return Ok(reply);
+        };
+        self.state.advance_at(&mount, id, place);
         Ok(reply)
-    }
-
-    /// Moves the listener, which sits at this mount, to this place of its stream, if there is one. It takes no memory.
-    fn advance_at(&mut self, mount: &MountName, id: u64, place: Option<Place>)
-        requires { sits_at self.old.seats id mount.now ≡ true }
-        ensures { self.new ≡ kept_changed self.old (moves_to id place) }
-    {
-        if let Some(place) = place {
-            self.state.advance_at(mount, id, place);
-        }
-    }
-
-    /// Applies any event.
-    fn step_by_outcome(&mut self, event: Event) -> Result<Reply, OutOfMemory>
-        ensures ok { CanStep self.old event → OnOk result (self.new ≡ kept_changed self.old (planned self.old event).change) }
-        ensures told { CanStep self.old event → IfOk result (λ reply. reply ≡ with_counts (planned self.old event).reply (counted self.old (planned self.old event).change)) }
-        ensures common { IfOk result (λ reply. common_of self.new ≡ common_after (common_of self.old) event reply) }
-        ensures err { OnErr result (self.new ≡ self.old) }
-        ensures frees { EventTakesNoMemory event → IsOk result }
-    {
-        let Outcome { reply, change } = self.outcome(event)?;
-        self.commit_for(change, reply)
-    }
-
-    /// Makes a change, and returns the reply that was worked out for it. The reply gets the numbers of those moved or
-    /// finished, if it names them. `OutOfMemory` if memory was refused; nothing has changed then.
-    pub(crate) fn commit_for(&mut self, change: Change, reply: Reply) -> Result<Reply, OutOfMemory>
-        ensures ok { OnOk result (self.new ≡ kept_changed self.old change) }
-        ensures told { IfOk result (λ told. told ≡ with_counts reply (counted self.old change)) }
-        ensures err { OnErr result (self.new ≡ self.old) }
-        ensures frees { ChangeTakesNoMemory change → IsOk result }
-    {
-        match self.state.commit(change) {
-            Ok(counts) => Ok(with_counts(reply, counts)),
-            Err(refused) => {
-                drop(reply);
-                Err(refused)
-            }
-        }
-    }
-
-    /// Makes a change, and returns the three replies that were worked out for it, with those numbers.
-    /// `OutOfMemory` if memory was refused; nothing has changed then.
-    pub(crate) fn commit_for_each(
-        &mut self,
-        change: Change,
-        replies: [Reply; 3],
-    ) -> Result<[Reply; 3], OutOfMemory>
-        ensures ok { OnOk result (self.new ≡ kept_changed self.old change) }
-        ensures told { IfOk result (λ told. told ≡ map (λ (reply : ReplyOf). with_counts reply (counted self.old change)) replies) }
-        ensures err { OnErr result (self.new ≡ self.old) }
-        ensures frees { ChangeTakesNoMemory change → IsOk result }
-    {
-        match self.state.commit(change) {
-            Ok(counts) => Ok(all_with_counts(replies, counts)),
-            Err(refused) => {
-                drop(replies);
-                Err(refused)
-            }
-        }
     }
 
     /// Returns the mounts where somebody sits and that relays feed on demand, in the order of their bytes.

@@ -15,7 +15,7 @@ impl Control {
     pub fn keep_lists(&mut self)
         ensures { self.new ≡ self.old }
     {
-        self.state.keep_lists();
+        self.state.keep_lists(self.alloc);
     }
 
     /// Puts a mount's part in the place of the one that is here, and returns that one. A listener that lagged out
@@ -29,6 +29,7 @@ impl Control {
         ensures unfit { OnErr result (IsUnfit part self.old.station.live) }
         ensures err { OnErr result (self.new ≡ self.old) }
     {
+        self.due_from = self.due_from.min(self.state.part_due(&part));
         self.state.exchange(part)
     }
 

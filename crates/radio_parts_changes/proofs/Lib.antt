@@ -1,5 +1,5 @@
 mod BegunSessions
-mod DueLemmas
+pub mod DueLemmas
 mod KilledLemmas
 pub mod PartChanges
 mod PreparedSeats

@@ -135,12 +135,6 @@ done w (SetFallback mount fallback) = record w { station = falling_back w.statio
 done w (AddUser mount user password) = outsiders_ended (user_added w mount user password) mount
 done w (DeleteUser mount user) = outsiders_ended (user_deleted w mount user) mount
 
--- all but the setting of a fallback and of a user takes no memory
-abbrev pub CommandTakesNoMemory : Command → Type 0
-CommandTakesNoMemory (SetFallback mount fallback) = ⊥
-CommandTakesNoMemory (AddUser mount user password) = ⊥
-CommandTakesNoMemory command = Unit {0}
-
 -- the client has had its answer
 abbrev pub answered : World → ℕ → World
 answered w id = record w { station = now_in_state w.station id Answered }

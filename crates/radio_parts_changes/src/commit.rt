@@ -1,6 +1,5 @@
 ghost use Rattle.std.specs.Prelude.{◌≡◌, true, IsOk, IfOk, OnOk, OnErr};
-ghost use Rattle.radio_seats_rows.specs.Seats.{sits_at, with_ended, with_session_at};
-ghost use Rattle.radio_parts_mount.specs.Timeouts.{lags_behind};
+ghost use Rattle.radio_seats_rows.specs.Seats.{sits_at, with_session_at};
 ghost use Rattle.radio_parts_changes.specs.Changes.{answered, changed, carried_along, called_home, session_ended, client_gone, ChangeTakesNoMemory};
 ghost use Rattle.radio_parts_changes.specs.Counts.{nobody, counted, counts_along, counts_home, counts_ended};
 ghost use Rattle.radio_parts_changes.specs.KeptChanges.{kept_changed, kept_taken_in};
@@ -12,17 +11,17 @@ use radio_addr::Peer;
 use radio_blocks::{Block, Place};
 use radio_fallback::{Carried, Move};
 use radio_parts_station::ClientState;
-use radio_policy::Rule;
 use radio_seats_rows::Seat;
 use radio_values::{MountName, Shown, Title};
+use std::alloc::Global;
 
 /// What a change answers that carries nobody along.
 pub(crate) const NOBODY: Carried = Carried { moved: 0, ended: 0 };
 
 impl ServerState {
-    /// Makes a change, and answers how many listeners it has moved and finished. `OutOfMemory` where
-    /// memory was refused; nothing has changed then.
-    pub(crate) fn commit(&mut self, change: Change) -> Result<Carried, OutOfMemory>
+    /// Makes a change, and returns how many listeners it has moved and finished. `OutOfMemory` if memory was refused;
+    /// nothing has changed then.
+    pub fn commit(&mut self, alloc: Global, change: Change) -> Result<Carried, OutOfMemory>
         ensures ok { OnOk result (self.new ≡ kept_changed self.old change) }
         ensures counts { IfOk result (λ counts. counts ≡ counted self.old change) }
         ensures err { OnErr result (self.new ≡ self.old) }
@@ -35,14 +34,14 @@ impl ServerState {
                 Ok(NOBODY)
             }
             Change::Admit { id, peer } => self.admit(id, peer),
-            Change::Begin { id, mount, shown } => self.begin(id, mount, shown),
-            Change::Raise { id, mount, shown } => self.raise(id, mount, shown),
+            Change::Begin { id, mount, shown } => self.begin(alloc, id, mount, shown),
+            Change::Raise { id, mount, shown } => self.raise(alloc, id, mount, shown),
             Change::Receive { mount, block } => self.take_in(mount, block),
             Change::SetTitle { mount, title } => {
                 self.set_title(&mount, title);
                 Ok(NOBODY)
             }
-            Change::TakeSeat { id, seat } => self.seat_listener(id, seat),
+            Change::TakeSeat { id, seat } => self.seat_listener(alloc, id, seat),
             Change::Advance { id, place } => {
                 self.advance(id, place);
                 Ok(NOBODY)
@@ -57,7 +56,7 @@ impl ServerState {
                 self.tick(ms);
                 Ok(NOBODY)
             }
-            Change::Obey { id, command } => self.obey(id, command),
+            Change::Obey { id, command } => self.obey(alloc, id, command),
         }
     }
 
@@ -108,11 +107,11 @@ impl ServerState {
         self.listeners.advance(id, place);
     }
 
-    /// The listener, which sits at this mount, has heard its stream up to this place. It takes no
-    /// memory.
-    pub(crate) fn advance_at(&mut self, mount: &MountName, id: u64, place: Place)
+    /// Moves the listener, which sits at this mount, to this place of its stream. The mount is named, so that its seat
+    /// is not looked up again. It takes no memory.
+    pub fn advance_at(&mut self, mount: &MountName, id: u64, place: Place)
         requires { sits_at self.old.seats id mount.now ≡ true }
-        ensures { self.new ≡ changed self.old (Change.Advance id place) }
+        ensures { self.new ≡ kept_changed self.old (Change.Advance id place) }
     {
         self.listeners.advance_at(mount, id, place);
     }
@@ -134,35 +133,32 @@ impl ServerState {
         let moment = self.registry.time();
         let limit = self.registry.settings().limits.queue_size.get() as u64;
         let end = self.listeners.receive(&mount, &block, moment, limit)?;
-        self.end_laggards(&mount, end);
+        self.listeners.end_lagging(&mount, end, limit);
         Ok(NOBODY)
     }
 
-    /// The listeners of the mount, whose stream ends there, lose their seats who are further behind
-    /// than a queue is long.
-    fn end_laggards(&mut self, mount: &MountName, end: u64)
-        ensures { self.new ≡ record self.old { seats = with_ended self.old.seats (lags_behind mount.now end self.old.station.settings.limits.queue_size) Rule.Lagged } }
-    {
-        let queue = self.registry.settings().limits.queue_size.get() as u64;
-        self.listeners.end_lagging(mount, end, queue);
-    }
-
     /// The client has this seat from now on; nobody is carried along.
-    fn seat_listener(&mut self, id: u64, seat: Seat) -> Result<Carried, OutOfMemory>
+    fn seat_listener(&mut self, alloc: Global, id: u64, seat: Seat) -> Result<Carried, OutOfMemory>
         ensures ok { OnOk result (self.new ≡ changed self.old (Change.TakeSeat id seat)) }
         ensures counts { IfOk result (λ counts. counts ≡ nobody) }
         ensures err { OnErr result (self.new ≡ self.old) }
     {
         self.registry
             .prepare_to_seat(&mut self.listeners, &seat.mount)?;
-        self.listeners.add(self.alloc, id, seat)?;
+        self.listeners.add(alloc, id, seat)?;
         self.registry.set_state(id, ClientState::Listens);
         Ok(NOBODY)
     }
 
     /// The client feeds the mount from now on, and listeners can be seated there. Those that sat
     /// there and waited for a session hear it, and those that the mount calls come home.
-    fn begin(&mut self, id: u64, mount: MountName, shown: Shown) -> Result<Carried, OutOfMemory>
+    fn begin(
+        &mut self,
+        alloc: Global,
+        id: u64,
+        mount: MountName,
+        shown: Shown,
+    ) -> Result<Carried, OutOfMemory>
         ensures ok { OnOk result (self.new ≡ changed self.old (Change.Begin id mount shown)) }
         ensures counts { IfOk result (λ counts. counts ≡ counted self.old (Change.Begin id mount shown)) }
         ensures err { OnErr result (self.new ≡ self.old) }
@@ -170,7 +166,7 @@ impl ServerState {
         self.listeners.prepare(&mount)?;
         match self
             .registry
-            .begin(&mut self.listeners, self.alloc, id, mount, shown)
+            .begin(&mut self.listeners, alloc, id, mount, shown)
         {
             Ok(()) => Ok(self.open_session(mount, id)),
             Err(refused) => {
@@ -183,7 +179,13 @@ impl ServerState {
     /// A relay has come up and feeds the mount from now on, and listeners can be seated there. Those that sat there and
     /// waited for a session hear it, and those that the mount calls come home. `OutOfMemory` if memory was refused;
     /// nothing has changed then.
-    fn raise(&mut self, id: u64, mount: MountName, shown: Shown) -> Result<Carried, OutOfMemory>
+    fn raise(
+        &mut self,
+        alloc: Global,
+        id: u64,
+        mount: MountName,
+        shown: Shown,
+    ) -> Result<Carried, OutOfMemory>
         ensures ok { OnOk result (self.new ≡ changed self.old (Change.Raise id mount shown)) }
         ensures counts { IfOk result (λ counts. counts ≡ counted self.old (Change.Raise id mount shown)) }
         ensures err { OnErr result (self.new ≡ self.old) }
@@ -191,7 +193,7 @@ impl ServerState {
         self.listeners.prepare(&mount)?;
         match self
             .registry
-            .raise(&mut self.listeners, self.alloc, id, mount, shown)
+            .raise(&mut self.listeners, alloc, id, mount, shown)
         {
             Ok(()) => Ok(self.open_session(mount, id)),
             Err(refused) => {

@@ -8,10 +8,12 @@ use crate::state::ServerState;
 use radio_parts_mount::{LAST_MOMENT, ListedPart, due_at};
 
 impl ServerState {
-    /// Puts the part in the place of its mount's, which it returns. Whoever has lagged out there, and
-    /// still has its seat, loses it. `Err` has the part itself, and nothing has changed, if the two
-    /// have no sessions of one source. It takes no memory.
-    pub(crate) fn exchange(&mut self, part: ListedPart) -> Result<ListedPart, ListedPart>
+    /// Puts the part in the place of its mount's, and returns that one. A listener that lagged out there, and still has
+    /// its seat, loses it. It takes no memory.
+    ///
+    /// `Err` has the part itself, and nothing has changed, if the two parts have not the same source, or one has a
+    /// source and the other none.
+    pub fn exchange(&mut self, part: ListedPart) -> Result<ListedPart, ListedPart>
         ensures ok { IfOk result (λ there. IsLentTo part there self.old self.new) }
         ensures back { OnErr result (result ≡ Err part) }
         ensures unfit { OnErr result (IsUnfit part self.old.station.live) }
@@ -21,7 +23,7 @@ impl ServerState {
     }
 
     /// Returns when the part's session is due; the last moment if it has none.
-    pub(crate) fn part_due(&self, part: &ListedPart) -> u64
+    pub fn part_due(&self, part: &ListedPart) -> u64
         ensures { result ≡ part_due self.now.station.settings.limits.source_timeout part.now }
     {
         let seconds = self.registry.settings().limits.source_timeout.get();

@@ -1,8 +1,8 @@
 //! What commands do.
 
 ghost use Rattle.std.specs.Prelude.{◌≡◌, IfOk, OnOk, OnErr};
-ghost use Rattle.radio_parts_changes.specs.Changes.{changed, done, session_killed, CommandTakesNoMemory};
-ghost use Rattle.radio_parts_changes.specs.Counts.{counted, counts_by};
+ghost use Rattle.radio_parts_changes.specs.Changes.{changed, session_killed};
+ghost use Rattle.radio_parts_changes.specs.Counts.{counted};
 ghost use Rattle.radio_parts_mount.specs.Sessions.{session_of};
 ghost use Rattle.radio_parts_changes.specs.declared.change.Change.{Change};
 ghost use Rattle.radio_events.specs.declared.command.Command.{Command as CommandOf};
@@ -15,16 +15,41 @@ use radio_events::Command;
 use radio_fallback::{Carried, Move};
 use radio_policy::Rule;
 use radio_values::MountName;
+use std::alloc::Global;
 
 impl ServerState {
-    /// The command is done, and the client who gave it has had its answer; how many it has moved or finished.
-    /// `OutOfMemory` if memory was refused; nothing has changed then.
-    pub(crate) fn obey(&mut self, id: u64, command: Command) -> Result<Carried, OutOfMemory>
+    /// Does the command, and marks the client that gave it as answered; returns how many listeners it has moved or
+    /// finished. `OutOfMemory` if memory was refused; nothing has changed then.
+    pub(crate) fn obey(
+        &mut self,
+        alloc: Global,
+        id: u64,
+        command: Command,
+    ) -> Result<Carried, OutOfMemory>
         ensures ok { OnOk result (self.new ≡ changed self.old (Change.Obey id command)) }
         ensures counts { IfOk result (λ counts. counts ≡ counted self.old (Change.Obey id command)) }
         ensures err { OnErr result (self.new ≡ self.old) }
     {
         match command {
+            Command::MoveClients { mount, destination } => {
+                self.answer(id);
+                Ok(self.carry_along(&Move::To { mount, destination }))
+            }
+            Command::KillClient { listener, .. } => {
+                self.answer(id);
+                self.listeners.end(listener, Rule::Killed);
+                Ok(NOBODY)
+            }
+            Command::KillSource { mount } => {
+                self.answer(id);
+                self.kill_source(mount);
+                Ok(NOBODY)
+            }
+            Command::SetTitle { mount, title } => {
+                self.answer(id);
+                self.set_title(&mount, title);
+                Ok(NOBODY)
+            }
             Command::SetFallback { mount, fallback } => {
                 self.registry.set_fallback(mount, fallback)?;
                 self.answer(id);
@@ -34,14 +59,12 @@ impl ServerState {
                 mount,
                 user,
                 password,
-            } => self.obey_user(id, mount, user, password),
-            other @ (Command::MoveClients { .. }
-            | Command::KillClient { .. }
-            | Command::KillSource { .. }
-            | Command::SetTitle { .. }
-            | Command::DeleteUser { .. }) => {
+            } => self.obey_user(alloc, id, mount, user, password),
+            Command::DeleteUser { mount, user } => {
                 self.answer(id);
-                Ok(self.do_in_place(other))
+                let counts = self.delete_user(&mount, user.as_slice());
+                drop(user);
+                Ok(counts)
             }
         }
     }
@@ -50,6 +73,7 @@ impl ServerState {
     /// finished. `OutOfMemory` if memory was refused; nothing has changed then.
     fn obey_user(
         &mut self,
+        alloc: Global,
         id: u64,
         mount: MountName,
         user: Bytes,
@@ -59,42 +83,9 @@ impl ServerState {
         ensures counts { IfOk result (λ counts. counts ≡ counted self.old (Change.Obey id (CommandOf.AddUser mount user password))) }
         ensures err { OnErr result (self.new ≡ self.old) }
     {
-        let counts = self.add_user(&mount, user.as_slice(), password.as_slice())?;
+        let counts = self.add_user(alloc, &mount, user.as_slice(), password.as_slice())?;
         self.answer(id);
         Ok(counts)
-    }
-
-    /// A command is done that takes no memory; how many it has moved or finished.
-    fn do_in_place(&mut self, command: Command) -> Carried
-        ensures state { CommandTakesNoMemory command → self.new ≡ done self.old command }
-        ensures counts { CommandTakesNoMemory command → result ≡ counts_by self.old command }
-    {
-        match command {
-            Command::MoveClients { mount, destination } => {
-                self.carry_along(&Move::To { mount, destination })
-            }
-            Command::KillClient { listener, .. } => {
-                self.listeners.end(listener, Rule::Killed);
-                NOBODY
-            }
-            Command::KillSource { mount } => {
-                self.kill_source(mount);
-                NOBODY
-            }
-            Command::SetTitle { mount, title } => {
-                self.set_title(&mount, title);
-                NOBODY
-            }
-            Command::DeleteUser { mount, user } => {
-                let counts = self.delete_user(&mount, user.as_slice());
-                drop(user);
-                counts
-            }
-            other @ (Command::SetFallback { .. } | Command::AddUser { .. }) => {
-                drop(other);
-                NOBODY
-            }
-        }
     }
 
     /// The session of the mount ends, if there is one, and its source is finished. It takes no

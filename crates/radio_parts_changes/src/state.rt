@@ -17,8 +17,7 @@ use std::marker::Model;
 /// mounts with their sessions. Contracts see it as a `World` in which of each stream the last blocks
 /// are kept. Each live mount is prepared for listeners, and as long as there are some, so is each that
 /// waits for a session. The registry notes of each session its mount and its number.
-pub(crate) struct ServerState {
-    pub(crate) alloc: Global,
+pub struct ServerState {
     pub(crate) registry: Registry,
     /// The listeners, with the parts of the mounts.
     pub(crate) listeners: Listeners,
@@ -27,7 +26,6 @@ pub(crate) struct ServerState {
 impl Drop for ServerState {
     fn drop(self) {
         let ServerState {
-            alloc: _,
             registry,
             listeners,
         } = self;
@@ -55,30 +53,37 @@ impl Model for ServerState {
 }
 
 impl ServerState {
-    /// Nothing has happened yet. It takes no memory.
-    pub(crate) fn new(alloc: Global, settings: Settings, lists: Lists) -> ServerState
+    /// Returns a state in which nothing has happened yet. It takes no memory.
+    pub fn new(alloc: Global, settings: Settings, lists: Lists) -> ServerState
         ensures { result ≡ opening settings lists }
     {
         ServerState {
-            alloc,
             registry: Registry::new(alloc, settings, lists),
             listeners: Listeners::new(alloc),
         }
     }
 
-    /// Each mount's part that is made from now on keeps a list of what happens to it.
-    pub(crate) fn keep_lists(&mut self)
+    /// Makes each part that is created from now on keep a list of what happens to it.
+    pub fn keep_lists(&mut self, alloc: Global)
         ensures { self.new ≡ self.old }
     {
         let queue = self.registry.settings().limits.queue_size.get() as u64;
-        self.listeners.keep_lists(self.alloc, queue);
+        self.listeners.keep_lists(alloc, queue);
     }
 
     /// Returns the state of the station, which is all of the state but the table of listeners.
-    pub(crate) fn station(&self) -> StationState<'_>
+    pub fn station(&self) -> StationState<'_>
         ensures { result ≡ self.now.station }
     {
         StationState::of(&self.registry, self.listeners.parts())
+    }
+
+    /// Returns the table of listeners.
+    pub fn seats(&self) -> &Listeners
+        ensures seats { result.now.seats ≡ self.now.seats }
+        ensures live { result.now.live ≡ self.now.station.live }
+    {
+        &self.listeners
     }
 
     /// The mount where the listener of this number sits, or sat last; none if there is no such

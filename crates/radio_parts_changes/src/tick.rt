@@ -8,10 +8,10 @@ use radio_parts_mount::HasSatOut;
 use radio_policy::Rule;
 
 impl ServerState {
-    /// It is this moment: clients who have asked for nothing in their time are finished, then
-    /// listeners who have had theirs, and then sources that have sent nothing in theirs. It takes
-    /// no memory.
-    pub(crate) fn tick(&mut self, ms: u64)
+    /// Sets the time, in milliseconds. It finishes clients that have asked for nothing in their time, then listeners
+    /// that have had theirs, and then sources that have sent nothing in theirs. It looks at each of them, and takes no
+    /// memory.
+    pub fn tick(&mut self, ms: u64)
         ensures { self.new ≡ ticked self.old ms }
     {
         self.registry.time_out(ms);

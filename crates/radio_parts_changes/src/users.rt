@@ -8,6 +8,7 @@ use crate::OutOfMemory;
 use crate::state::ServerState;
 use radio_fallback::Carried;
 use radio_values::MountName;
+use std::alloc::Global;
 
 impl ServerState {
     /// The users of the mount let this one in with this password from now on, and those lose their
@@ -15,6 +16,7 @@ impl ServerState {
     /// refused; nothing has changed then.
     pub(crate) fn add_user(
         &mut self,
+        alloc: Global,
         mount: &MountName,
         user: &[u8],
         password: &[u8],
@@ -23,7 +25,7 @@ impl ServerState {
         ensures counts { IfOk result (λ counts. counts ≡ counts_out (user_added self.old mount.now user.now password.now) mount.now) }
         ensures err { OnErr result (self.new ≡ self.old) }
     {
-        self.registry.add_user(self.alloc, mount, user, password)?;
+        self.registry.add_user(alloc, mount, user, password)?;
         Ok(self.end_outsiders(mount))
     }
 

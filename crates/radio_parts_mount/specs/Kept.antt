@@ -1,6 +1,5 @@
 -- What is kept of streams: the last whole blocks, as far as a queue is long. A byte that is forgotten reads as zero, so that no place changes.
-use Rattle.std.specs.Prelude.{◌≡◌, ℕ, ◌-◌, nat_le, if◌then◌else◌, List, [], ◌∷◌, ◌++◌, drop, replicate, map, Result, IfOk, OnOk, OnErr}
-use Rattle.std.specs.declared.alloc.AllocError.{AllocError}
+use Rattle.std.specs.Prelude.{ℕ, ◌-◌, nat_le, if◌then◌else◌, List, [], ◌∷◌, ◌++◌, drop, replicate, map}
 use Rattle.std.specs.List.{concat}
 use Rattle.radio_blocks.specs.Queue.{KeptTail, starts_from}
 use Rattle.radio_tables.specs.Lists.{update_first}

@@ -171,7 +171,10 @@ impl PartList {
     pub(crate) fn give_up(&mut self)
         ensures { self.new.kept ≡ None }
     {
-        self.kept = None;
+        // each draw calls it, and has nothing to give up
+        if self.kept.is_some() {
+            self.kept = None;
+        }
     }
 
     /// Returns how many items are kept; 0 if none are.

@@ -3,7 +3,7 @@ ghost use Rattle.std.specs.Prelude.{◌≡◌, ◌++◌, IfOk, OnOk};
 ghost use Rattle.radio_relay.specs.Orders.{orders, mounts_in_question, with_other_names, wished_at, listed_at, relay_listed, is_wished, order_of, relayed_mounts};
 
 use crate::OutOfMemory;
-use radio_settings_values::{Login, Master, RelaySetting, Settings, SlaveSetting};
+use radio_settings_values::{RelaySetting, Settings, SlaveSetting};
 use radio_values::MountName;
 use std::alloc::Global;
 use std::collections::BTreeSet;
@@ -90,7 +90,7 @@ fn wished_at(
     match settings.relays.get(mount) {
         Some(relay) => {
             if is_wished(relay, wanted) {
-                Ok(Some(copy_of(relay)?))
+                Ok(Some(relay.clone()?))
             } else {
                 Ok(None)
             }
@@ -127,45 +127,11 @@ fn relay_listed(mount: MountName, slave: &SlaveSetting) -> Result<RelaySetting, 
     ensures { IfOk result (λ relay. relay ≡ relay_listed mount slave.now) }
 {
     Ok(RelaySetting {
-        master: copy_of_master(&slave.master)?,
+        master: slave.master.clone()?,
         mount,
         local_mount: mount,
         login: None,
         on_demand: false,
-    })
-}
-
-fn copy_of(relay: &RelaySetting) -> Result<RelaySetting, OutOfMemory>
-    ensures { IfOk result (λ copy. copy ≡ relay.now) }
-{
-    let login = match &relay.login {
-        Some(login) => Some(copy_of_login(login)?),
-        None => None,
-    };
-    Ok(RelaySetting {
-        master: copy_of_master(&relay.master)?,
-        mount: relay.mount,
-        local_mount: relay.local_mount,
-        login,
-        on_demand: relay.on_demand,
-    })
-}
-
-fn copy_of_master(master: &Master) -> Result<Master, OutOfMemory>
-    ensures { IfOk result (λ copy. copy ≡ master.now) }
-{
-    Ok(Master {
-        server: master.server.clone()?,
-        port: master.port,
-    })
-}
-
-fn copy_of_login(login: &Login) -> Result<Login, OutOfMemory>
-    ensures { IfOk result (λ copy. copy ≡ login.now) }
-{
-    Ok(Login {
-        username: login.username.clone()?,
-        password: login.password.clone()?,
     })
 }
 

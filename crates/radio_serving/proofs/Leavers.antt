@@ -1,9 +1,8 @@
 -- Who feeds a mount once a client has left that had begun to.
-use Rattle.std.proofs.Common.{◌≡◌, ◌<◌, ◌≤◌, ◌+◌, ◌==◌, ℕ, suc, Bool, true, false, Option, None, Some, List, [], ◌∷◌, ◌++◌, length, take, drop, refl, ap, arith, nat_lt, is_some, length-append}
+use Rattle.std.proofs.Common.{◌≡◌, ◌+◌, ◌==◌, ℕ, suc, false, Some, List, [], ◌∷◌, ◌++◌, length, take, drop, refl, ap, arith, is_some, length-append}
 use Rattle.std.specs.List.{position_or_len}
 use Rattle.std.proofs.lemmas.Bool.Decides.{nat_tests}
 use Rattle.std.proofs.lemmas.Grind.{common_steps}
-use Rattle.std.proofs.lemmas.List.Folds.{position_or_len_push}
 use Rattle.radio_serving.specs.Sources.{is_source_number, place_among, with_source, without_place, without_source, FeedingClients}
 
 place_last : (id : ℕ) (ns : List ℕ) → is_some (place_among id ns) ≡ false → position_or_len (λ n. n == id) (ns ++ id ∷ []) ≡ length ns

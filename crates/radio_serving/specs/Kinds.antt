@@ -1,10 +1,9 @@
 -- What an event may bring to others.
-use Rattle.std.specs.Prelude.{◌≡◌, ◌⊎◌, Bool, true, false, ◌||◌, if◌then◌else◌}
+use Rattle.std.specs.Prelude.{◌≡◌, ◌⊎◌, Bool, true, false, ◌||◌}
 use Rattle.radio_events.specs.declared.event.Event.{Event}
 use Rattle.radio_events.specs.declared.event.Event.TheVariants.{Push, SourceEnd, Title, RelayUp, RelayDown, Source, Leave, Command as Commands}
 use Rattle.radio_events.specs.declared.reply.Reply.{Reply}
 use Rattle.radio_events.specs.declared.reply.Reply.TheVariants.{Feeding as SaysFeeding, Text}
-use Rattle.radio_connections.specs.Rooms.{fills_room}
 use Rattle.radio_serving.specs.declared.found.Found.{Found}
 use Rattle.radio_serving.specs.declared.found.Take.{Take}
 use Rattle.radio_serving.specs.declared.found.Take.TheVariants.{News as TakesNews, All as TakesAll}
@@ -35,7 +34,7 @@ FeedsAfter kind reply f f' = f' ≡ f
 
 -- nothing is found
 abbrev pub nothing_found : Found
-nothing_found = record { has_news = false; has_more = false; has_started = false }
+nothing_found = record { has_news = false; has_started = false }
 
 -- whether a command was done, and whether a client feeds from now on
 abbrev pub is_done : Reply → Bool
@@ -46,14 +45,14 @@ abbrev pub is_feeding : Reply → Bool
 is_feeding SaysFeeding = true
 is_feeding reply = false
 
--- what a worker has found once an event of this kind had this reply: news, a client that has begun to feed, or more to draw
+-- what a worker has found once an event of this kind had this reply: news, or a client that has begun to feed
 -- a client that leaves is news if it may have fed a mount
 abbrev pub found_after : Kind → Reply → Bool → Found → Found
 found_after News reply fed found = record found { has_news = true }
 found_after Command reply fed found = record found { has_news = is_done reply || found.has_news }
 found_after (Feeds id) reply fed found = record found { has_started = is_feeding reply || found.has_started }
 found_after (Leaves id) reply fed found = record found { has_news = fed || found.has_news }
-found_after Own reply fed found = record found { has_more = fills_room reply || found.has_more }
+found_after Own reply fed found = found
 
 -- whether the client of an event of this kind leaves, and may have fed a mount
 abbrev pub source_leaves : Kind → FeedingClients → Bool

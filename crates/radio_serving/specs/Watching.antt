@@ -1,7 +1,4 @@
 -- A server whom a worker watches.
-use Rattle.std.specs.Prelude.{◌≡◌}
-use Rattle.radio_events.specs.declared.event.Event.{Event}
-use Rattle.radio_events.specs.declared.reply.Reply.{Reply}
 use Rattle.radio_events.specs.Servers.{Steps}
 use Rattle.radio_serving.specs.Kinds.{FeedsAfter, event_kind}
 use Rattle.radio_serving.specs.Sources.{FeedingClients, nobody_feeds}

@@ -4,7 +4,6 @@ ghost use Rattle.std.specs.Prelude.{◌≡◌, ◌||◌};
 ghost use Rattle.radio_serving.specs.Kinds.{found_after, left_of, nothing_found};
 
 use crate::kind::Kind;
-use radio_connections::fills_room;
 use radio_events::Reply;
 
 /// What a worker has found since it last looked.
@@ -12,8 +11,6 @@ use radio_events::Reply;
 pub struct Found {
     /// Whether listeners may have news.
     pub has_news: bool,
-    /// Whether a draw has brought all that it had room for.
-    pub has_more: bool,
     /// Whether a client has begun to feed a mount.
     pub has_started: bool,
 }
@@ -34,7 +31,6 @@ impl Found {
     {
         Found {
             has_news: false,
-            has_more: false,
             has_started: false,
         }
     }
@@ -49,7 +45,7 @@ impl Found {
             Kind::Command => self.with_news(matches!(reply, Reply::Text(_))),
             Kind::Feeds(_) => self.with_started(matches!(reply, Reply::Feeding)),
             Kind::Leaves(_) => self.with_news(fed),
-            Kind::Own => self.with_more(fills_room(reply)),
+            Kind::Own => self,
         }
     }
 
@@ -72,16 +68,6 @@ impl Found {
     {
         Found {
             has_news: has_news || self.has_news,
-            ..self
-        }
-    }
-
-    /// Returns it with more to draw, if there is some.
-    fn with_more(self, has_more: bool) -> Found
-        ensures { result ≡ record self { has_more = has_more || self.has_more } }
-    {
-        Found {
-            has_more: has_more || self.has_more,
             ..self
         }
     }

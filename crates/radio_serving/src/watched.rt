@@ -1,7 +1,7 @@
 //! A server, and whether what was asked of it may bring something to listeners.
 
 use crate::found::{Found, Take};
-use crate::kind::{Kind, kind_of};
+use crate::kind::kind_of;
 use crate::sources::Sources;
 use crate::{OutOfMemory, Server};
 use radio_events::{Event, Reply};
@@ -100,18 +100,13 @@ impl<S: Server + Drop> Server for Watched<S> {
         }
     }
 
-    /// The same for a draw, which brings nothing to others: it notes whether there may be more for the listener.
+    /// The same for a draw, which brings nothing to others, so nothing is noted of it.
     fn draw(&mut self, id: u64, room: u32) -> Result<Reply, OutOfMemory>
         ensures ok { IfOk result (λ reply. WatchedSteps S.steps self.old (Draw id room) reply self.new) }
         ensures err { OnErr result (self.new ≡ self.old) }
         ensures refused { OnErr result (S.refuses self.old.server (Draw id room)) }
     {
-        let drawn = self.server.draw(id, room);
-        if let Ok(reply) = &drawn {
-            self.found
-                .set(self.found.get().after(Kind::Own, reply, false));
-        }
-        drawn
+        self.server.draw(id, room)
     }
 
     fn last_mount(&self, id: u64) -> Option<MountName> {

@@ -9,6 +9,7 @@
 //! `radio_settings` reads them from a text.
 #![tactic(auto)]
 
+mod copies;
 mod mounts;
 mod options;
 mod places;

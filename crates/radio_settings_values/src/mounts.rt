@@ -107,6 +107,19 @@ impl<T: Named> NamedSettings<T> {
     }
 }
 
+impl<T: Named + Clone> NamedSettings<T> {
+    /// Returns equal tables, if clones of tables are equal to them. `OutOfMemory` if memory was refused.
+    pub fn again(&self) -> Result<NamedSettings<T>, OutOfMemory>
+        requires { (table other : T) → T.is_clone table other → other ≡ table }
+        ensures { IfOk result (λ named. named ≡ self.now) }
+    {
+        Ok(NamedSettings {
+            list: self.list.clone()?,
+            places: self.places.clone()?,
+        })
+    }
+}
+
 fn names_of<T: Named>(alloc: Global, tables: &[T]) -> Result<Vec<MountName>, OutOfMemory>
     ensures { IfOk result (λ names. names.items ≡ map T.name_of tables.now) }
 {

@@ -48,7 +48,7 @@ pub record AreWorkersAt (start : World) (web : WebAnswers) (all : List (List Rec
 
 -- Workers at the slots of a hall, and relays' threads over it, have labels of their own. What they made is of their connections and pulls.
 -- If `settle` ends well with the passes at the slots and those of the relays' threads, its history is of all of them. The last three
--- premises are what `settle` ensures of its history.
+-- premises are what `settle` ensures of its history, for a hall that was opened with these settings and lists.
 abbrev pub RunningStationsHearSlices : (Slot : Type 0) → Type 0
 RunningStationsHearSlices Slot = (pass_of : Slot → Option (List ReceiptOf)) (start : World) (web : WebAnswers) (before after : List Slot)
     (relays : List (RelayAtHall start)) → AreWorkedAt Slot pass_of start web before after

@@ -54,7 +54,7 @@ pub record IsOfWorkers {start : World} {web : WebAnswers} (settings : Settings) 
   pub hears : StationHearsSlices web settings lists made (joint_roll workers)
 
 -- If `settle` ends well with the passes of these, and no label is known to two of them, then its history is of them. The last three premises
--- are what `settle` ensures of its history.
+-- are what `settle` ensures of its history, for a hall that was opened with these settings and lists.
 abbrev pub SettledStationsHearSlices : Type 0
 SettledStationsHearSlices = (start : World) (web : WebAnswers) (settings : Settings) (lists : Lists) (workers : List (WorkAtHall start web))
     (control : List ControlLine) (mounts : List (List MountItem)) (history : List Entry)

@@ -1,6 +1,6 @@
 //! The table.
 
-ghost use Rattle.std.specs.Prelude.{◌≡◌, true, [], ◌∷◌, ◌++◌, find, filter, not, map, length, OnOk, OnErr};
+ghost use Rattle.std.specs.Prelude.{◌≡◌, true, [], ◌∷◌, ◌++◌, find, filter, not, map, length, IfOk, OnOk, OnErr};
 ghost use Rattle.std.specs.Option.{option_copied, option_map_or};
 ghost use Rattle.std.specs.List.Sorted.{IsStrictlySortedBy};
 ghost use Rattle.std.specs.Map.Iter.{ShowsInOrder, deref};
@@ -193,5 +193,18 @@ impl<R: Row> Table<R> {
         ensures rising { IsStrictlySortedBy R.Key.cmp (map R.key self.now) }
     {
         self.rows.values()
+    }
+}
+
+impl<R: Row + Clone> Table<R> {
+    /// Returns an equal table, if clones of keys and of rows are equal to them. `OutOfMemory` if memory was refused.
+    pub fn again(&self) -> Result<Table<R>, OutOfMemory>
+        requires keys { (key other : R.Key) → R.Key.is_clone key other → other ≡ key }
+        requires rows { (row other : R) → R.is_clone row other → other ≡ row }
+        ensures { IfOk result (λ table. table ≡ self.now) }
+    {
+        Ok(Table {
+            rows: self.rows.clone()?,
+        })
     }
 }

@@ -21,6 +21,7 @@ mod intake;
 mod intake_laws;
 mod laws;
 mod leaving;
+mod listeners;
 mod pass;
 mod rule;
 mod running;

@@ -8,10 +8,11 @@ ghost use Rattle.radio_serving.specs.Watching.{WatchedOf, WatchedSteps, watched_
 ghost use Rattle.radio_serving.specs.Workers.{WorkerOf};
 ghost use Rattle.radio_workers.specs.TakenConnections.{HasTakenMore};
 ghost use Rattle.radio_workers.specs.Leaving.{LeavesAll};
-ghost use Rattle.radio_workers.specs.Shifts.{HasParted, first_source, has_listeners, without_oldest};
+ghost use Rattle.radio_workers.specs.Shifts.{HasParted, first_source, has_listeners, has_more_to_draw, without_oldest};
 ghost use Rattle.radio_workers.specs.Working.{WorkerHasDone, HasWorkedAtSlot, IsWorkOf, shift_of};
 
 use crate::leaving::leave_all;
+use crate::listeners::{has_listeners, has_more_to_draw};
 use crate::{Intake, IntakePass, Seen, TurnSource, TurnStart, WorkerSlot, Workplace};
 use radio_events::{Caller, SharedServer};
 use radio_serving::{
@@ -237,7 +238,7 @@ impl<S: Server + Drop, L: Line> Shift<S, L> {
         let found = self.worker.server().take_found(Take::All);
         self.part_sources(found);
         self.close_oldest(turn_source);
-        let seen = self.seen(before, found);
+        let seen = self.seen(before, call.turn.ms, found);
         turn_source.note(seen, self.worker.log());
     }
 
@@ -271,11 +272,12 @@ impl<S: Server + Drop, L: Line> Shift<S, L> {
         self.sources.len().saturating_add(self.conns.len())
     }
 
-    /// Returns what is seen after a turn that began with `before` connections, and in which this was found.
+    /// Returns what is seen after a turn at this moment, in milliseconds, that began with `before` connections, and in which this
+    /// was found.
     // rule: Failed accepts
-    fn seen(&self, before: usize, found: Found) -> Seen
+    fn seen(&self, before: usize, ms: u64, found: Found) -> Seen
         ensures news { result.news ≡ found.has_news }
-        ensures more { result.more ≡ found.has_more }
+        ensures more { result.more ≡ has_more_to_draw ms self.now.conns.items }
         ensures connections { result.connections ≡ min (2 ^ 64 - 1) (length self.now.sources.items + length self.now.conns.items) }
         ensures sources { result.sources ≡ length self.now.worker.server.feeding.numbers }
         ensures listeners { result.has_listeners ≡ has_listeners self.now.conns.items }
@@ -285,7 +287,7 @@ impl<S: Server + Drop, L: Line> Shift<S, L> {
         let connections = self.count();
         Seen {
             news: found.has_news,
-            more: found.has_more,
+            more: has_more_to_draw(self.conns.as_slice(), ms),
             connections,
             sources: self.worker.server().sources(),
             has_listeners: has_listeners(self.conns.as_slice()),
@@ -382,11 +384,4 @@ fn first_source<S: Server + Drop, L: Line>(server: &Watched<S>, conns: &[Conn<L>
     ensures { result ≡ first_source server.now.feeding conns.now }
 {
     conns.iter().position(|conn| server.feeds(conn.id()))
-}
-
-/// Returns whether one of them has a seat.
-fn has_listeners<L: Line>(conns: &[Conn<L>]) -> bool
-    ensures { result ≡ has_listeners conns.now }
-{
-    conns.iter().any(|conn| conn.status().sits)
 }

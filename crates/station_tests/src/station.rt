@@ -244,13 +244,11 @@ fn are_served<H: Origin + Send + Sync, R: Threads + Wait + Clock + Sync>(
     add_passes(slots, passes) && is_filled && is_empty
 }
 
-/// Serves these connections at a hall of these settings, of which a second copy is for the settling. Returns whether the history is
-/// as the lines gave and took.
+/// Serves these connections at a hall of these settings. Returns whether the history is as the lines gave and took.
 fn is_told_as_it_came<H: Origin + Send + Sync, R: Threads + Wait + Clock + Sync>(
     rt: &R,
     alloc: Global,
     settings: Settings,
-    again: Settings,
     blank: Blank,
     seed: u64,
 ) -> bool
@@ -258,17 +256,15 @@ fn is_told_as_it_came<H: Origin + Send + Sync, R: Threads + Wait + Clock + Sync>
     requires ledger { (blank.name ≡ H.name) × (blank.parts ≡ H.parts) × (blank.parts ≡ 2 ^ 32) }
 {
     let Ok(hall) = Hall::<Kept, H>::new(alloc, settings, Lists::new(alloc), blank) else {
-        drop(again);
         return false;
     };
     let Ok(connections) = Connections::new(alloc, seed) else {
         drop(hall);
-        drop(again);
         return false;
     };
     let mut passes = Vec::new(alloc);
     let are_served = are_served(rt, alloc, &hall, &connections, seed, &mut passes);
-    match settle(alloc, hall, passes, again, Lists::new(alloc)) {
+    match settle(alloc, hall, passes) {
         Ok(history) => {
             let is_as_it_came = is_all_as_it_came(rt, alloc, history.as_slice(), &connections);
             drop(history);
@@ -278,23 +274,15 @@ fn is_told_as_it_came<H: Origin + Send + Sync, R: Threads + Wait + Clock + Sync>
     }
 }
 
-/// Reads the settings twice, and serves a station of this seed.
+/// Serves a station of this seed.
 fn goes<R: Threads + Wait + Clock + Sync>(
     rt: &R,
     alloc: Global,
     seed: u64,
 ) -> Result<bool, SettingsFault> {
-    let again = read_settings(alloc, SETTINGS)?;
-    match read_settings(alloc, SETTINGS) {
-        Ok(settings) => {
-            let blank = Blank::new(PASSES);
-            Ok(is_told_as_it_came::<Brand, R>(rt, alloc, settings, again, blank, seed))
-        }
-        Err(fault) => {
-            drop(again);
-            Err(fault)
-        }
-    }
+    let settings = read_settings(alloc, SETTINGS)?;
+    let blank = Blank::new(PASSES);
+    Ok(is_told_as_it_came::<Brand, R>(rt, alloc, settings, blank, seed))
 }
 
 /// Returns whether listeners at a station of this seed get what came.

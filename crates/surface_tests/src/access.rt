@@ -58,9 +58,14 @@ fn loses_her(alloc: Global, lists: &mut Lists, mount: &MountName) -> bool {
     is_set && is_other && !opens(alloc, lists, mount, OTHER_VALUE) && lists.has_users(mount)
 }
 
+/// Whether the mount loses her, and a copy of the lists from before does not.
 fn are_users_changed(alloc: Global, mount: MountName) -> bool {
     let mut lists = Lists::new(alloc);
-    sets_users(alloc, &mut lists, mount) && loses_her(alloc, &mut lists, &mount)
+    let are_set = sets_users(alloc, &mut lists, mount);
+    let Ok(before) = lists.clone() else {
+        return false;
+    };
+    are_set && loses_her(alloc, &mut lists, &mount) && is_hers(alloc, &before, &mount)
 }
 
 #[test]
@@ -86,6 +91,22 @@ fn sets_addresses(alloc: Global, lists: &mut Lists, denied: &[u8], allowed: &[u8
     true
 }
 
+/// Whether the first peer alone is denied by the lists, and the second alone allowed.
+fn are_told_apart(lists: &Lists, denied: Peer, allowed: Peer) -> bool {
+    lists.is_denied(denied)
+        && !lists.is_denied(allowed)
+        && lists.is_allowed(allowed)
+        && !lists.is_allowed(denied)
+}
+
+/// Whether they are so by a copy of the lists.
+fn are_told_apart_again(lists: &Lists, denied: Peer, allowed: Peer) -> bool {
+    match lists.clone() {
+        Ok(copy) => are_told_apart(&copy, denied, allowed),
+        Err(_) => false,
+    }
+}
+
 /// Whether peers are denied and allowed by the lists.
 fn are_addresses_asked(alloc: Global) -> bool {
     let mut lists = Lists::new(alloc);
@@ -94,10 +115,8 @@ fn are_addresses_asked(alloc: Global) -> bool {
     let is_free = !lists.is_denied(denied) && lists.is_allowed(denied);
     is_free
         && sets_addresses(alloc, &mut lists, b"10.0.0.0/8", b"192.168.0.0/16")
-        && lists.is_denied(denied)
-        && !lists.is_denied(allowed)
-        && lists.is_allowed(allowed)
-        && !lists.is_allowed(denied)
+        && are_told_apart(&lists, denied, allowed)
+        && are_told_apart_again(&lists, denied, allowed)
 }
 
 #[test]

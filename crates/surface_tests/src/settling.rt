@@ -241,20 +241,14 @@ fn is_empty_book<H: Origin>(
 }
 
 /// The same of a hall.
-fn is_empty_hall<H: Origin>(
-    alloc: Global,
-    settings: Settings,
-    again: Settings,
-    blank: Blank,
-) -> bool
+fn is_empty_hall<H: Origin>(alloc: Global, settings: Settings, blank: Blank) -> bool
     requires opening { H.opening ≡ opening settings no_lists }
     requires ledger { (blank.name ≡ H.name) × (blank.parts ≡ H.parts) × (blank.parts ≡ 2 ^ 32) }
 {
     let Ok(hall) = Hall::<Kept, H>::new(alloc, settings, Lists::new(alloc), blank) else {
-        drop(again);
         return false;
     };
-    let settled = settle(alloc, hall, Vec::new(alloc), again, Lists::new(alloc));
+    let settled = settle(alloc, hall, Vec::new(alloc));
     is_empty(settled)
 }
 
@@ -292,17 +286,9 @@ fn book_is_empty(alloc: Global) -> Result<bool, SettingsFault> {
 }
 
 fn hall_is_empty(alloc: Global) -> Result<bool, SettingsFault> {
-    let again = settings(alloc)?;
-    match settings(alloc) {
-        Ok(settings) => {
-            let blank = Blank::new(PASSES);
-            Ok(is_empty_hall::<Brand>(alloc, settings, again, blank))
-        }
-        Err(fault) => {
-            drop(again);
-            Err(fault)
-        }
-    }
+    let settings = settings(alloc)?;
+    let blank = Blank::new(PASSES);
+    Ok(is_empty_hall::<Brand>(alloc, settings, blank))
 }
 
 fn none_is_merged(alloc: Global) -> Result<bool, SettingsFault> {

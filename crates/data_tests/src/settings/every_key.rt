@@ -344,6 +344,14 @@ fn is_station(settings: &Settings, want: &Station) -> bool {
         && has_slave(settings, want)
 }
 
+/// Whether a copy of the settings is those of the station too.
+fn is_copied(settings: &Settings, want: &Station) -> bool {
+    match settings.clone() {
+        Ok(copy) => is_station(&copy, want),
+        Err(_) => false,
+    }
+}
+
 /// Whether a text says of answers what is wanted.
 fn has_answers(alloc: Global, text: &str, want: &Station) -> bool {
     match read_answers(alloc, text) {
@@ -365,7 +373,7 @@ fn sets(alloc: Global, text: &str, want: &Station) -> bool {
     let Ok(settings) = read_settings(alloc, text) else {
         return false;
     };
-    let is_wanted = is_station(&settings, want);
+    let is_wanted = is_station(&settings, want) && is_copied(&settings, want);
     drop(settings);
     is_wanted && has_answers(alloc, text, want) && has_proxies(alloc, text, want)
 }

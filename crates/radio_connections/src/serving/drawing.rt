@@ -85,15 +85,19 @@ fn draw_for<S: Server, L: Line>(server: &mut S, conn: &mut Conn<L>, room: u32)
     requires { conn.old.status.fate ≡ Open }
     ensures { DrawsFor S.steps room server.old conn.old server.new conn.new }
 {
-    match conn.refusals.draw(server, conn.id, room) {
+    let drawn = server.draw(conn.id, room);
+    // the reply is large, so it is not moved out of the result
+    match &drawn {
         Ok(reply) => {
-            conn.status.is_behind = fills_room(&reply);
-            conn.status.fate = append(&mut conn.outgoing, &mut conn.session, &reply, &conn.account);
-            drop(reply);
+            conn.status.is_behind = fills_room(reply);
+            conn.status.fate = append(&mut conn.outgoing, &mut conn.session, reply, &conn.account);
+            drop(drawn);
         }
         Err(_) => {
+            conn.refusals.count(false);
             conn.account.note_no_memory();
             conn.status.fate = Fate::Cut;
+            drop(drawn);
         }
     }
 }

@@ -1,8 +1,9 @@
 //! A connection's turn.
 
-ghost use Rattle.std.specs.Prelude.{◌≡◌, []};
+ghost use Rattle.std.specs.Prelude.{◌≡◌, [], IsTrue};
+ghost use Rattle.radio_connections.specs.declared.conn.Fate.TheVariants.{Open};
 ghost use Rattle.radio_connections.specs.Serving.{ServesInTurn};
-ghost use Rattle.radio_connections.specs.Leaving.{Works};
+ghost use Rattle.radio_connections.specs.Leaving.{EndsTurn, Works};
 
 use crate::serving::Now;
 use crate::serving::drawing::draw;
@@ -67,9 +68,28 @@ fn write_and_work<S: Server, L: Line, G: Gate>(
         return;
     }
     work(server, conn, buffer, now, log);
+    end_turn(server, conn, gate, now);
+}
+
+/// Has the client leave if the connection is over, writes what is pending, and has the client leave if the connection is over then.
+/// In most turns the connection goes on with nothing pending, so there is nothing to do.
+fn end_turn<S: Server, L: Line, G: Gate>(server: &mut S, conn: &mut Conn<L>, gate: &G, now: Now)
+    ensures { EndsTurn S.steps now.ms server.old conn.old server.new conn.new }
+{
+    if is_idle(conn) {
+        return;
+    }
     leave(server, conn);
     flush(conn, gate, now);
     leave(server, conn);
+}
+
+/// Returns whether the connection goes on with nothing pending.
+fn is_idle<L: Line>(conn: &Conn<L>) -> bool
+    ensures open { IsTrue result → conn.now.status.fate ≡ Open }
+    ensures none { IsTrue result → conn.now.outgoing ≡ [] }
+{
+    conn.status.fate.is_open() && conn.outgoing.rest().is_empty()
 }
 
 /// Logs the end of a connection: of its source, and of its client once nothing more is written.

@@ -25,7 +25,7 @@ pub returns-then-comes_before : goal.returns-then-comes_before
 returns-then-comes_before t c =
     let f = at_fork c.self.view_is c.self.invariant (c.in-Some.is) in
     let v = c.in-Some.fork.value in
-    let one = c.behind-fork-else-row-deref.view_is ∙ c.deref-else-row-deref.ensures in
+    let one = c.behind-fork-else-deref.view_is ∙ c.deref-else-deref.ensures in
     let two = c.behind-fork-then-comes_before.view_is ∙ c.deref_mut-then-comes_before.ensures.value in
     let first : comes_before c.args.boxed.id v.row.id ≡ true =
     sym (ap (λ (x : Attachment). comes_before x.id v.row.id) c.row-row.ensures)
@@ -43,7 +43,7 @@ returns-else-comes_before t c =
     let f = at_fork c.self.view_is c.self.invariant (c.in-Some.is) in
     let v = c.in-Some.fork.value in
     let before = c.behind-fork.view_is ∙ c.deref.ensures in
-    let one = c.behind-fork-else-row-deref.view_is ∙ c.deref-else-row-deref.ensures in
+    let one = c.behind-fork-else-deref.view_is ∙ c.deref-else-deref.ensures in
     let two = c.behind-fork-else-comes_before.view_is ∙ c.deref_mut-else-comes_before.ensures.value in
     let not_first : comes_before c.args.boxed.id v.row.id ≡ false =
     sym (ap (λ (x : Attachment). comes_before x.id v.row.id) c.row-row.ensures)

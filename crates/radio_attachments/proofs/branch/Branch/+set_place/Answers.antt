@@ -43,7 +43,7 @@ returns t c =
     let v = c.in-Some.fork.value in
     let id = c.args.id in
     let change = update_first (is_attached id) (at_place c.args.place) in
-    let two = c.behind-fork-4.view_is ∙ c.deref_mut-2.ensures.value in
+    let two = c.behind-fork-3.view_is ∙ c.deref_mut-2.ensures.value in
     let not_first = its_side id (c.behind-fork-2.view_is ∙ c.deref-2.ensures) c.comes_before.ensures c.if-comes_before.false in
     let apart = not_its id (c.behind-fork.view_is ∙ c.deref.ensures) c.if-id-deref.false in
     ap (λ (x : Forked). x.less ++ x.row ∷ c.set_place-2.new.self) two

@@ -55,14 +55,14 @@ returns g t c =
     let f = at_fork c.self.view_is c.self.invariant (c.in-Some.is) in
     let v = c.in-Some.fork.value in
     let id = c.args.id in
-    let two = c.behind-fork-4.view_is ∙ c.deref_mut-2.ensures.value in
+    let two = c.behind-fork-3.view_is ∙ c.deref_mut-2.ensures.value in
     let not_first = its_side id (c.behind-fork-2.view_is ∙ c.deref-2.ensures) c.comes_before.ensures c.if-comes_before.false in
     let apart = not_its id (c.behind-fork.view_is ∙ c.deref.ensures) c.if-id-deref.false in
-    let side : c.behind-fork-4.inside.more ≡ v.more = ap (λ (x : Forked). x.more) two in
-    let whole : (ys : List Attachment) → (c.behind-fork-4.inside.less ++ c.behind-fork-4.inside.row ∷ ys) ≡ v.less ++ v.row ∷ ys =
+    let side : c.behind-fork-3.inside.more ≡ v.more = ap (λ (x : Forked). x.more) two in
+    let whole : (ys : List Attachment) → (c.behind-fork-3.inside.less ++ c.behind-fork-3.inside.row ∷ ys) ≡ v.less ++ v.row ∷ ys =
     λ ys. ap (λ (x : Forked). x.less ++ x.row ∷ ys) two in
     visited_there g.V.PlaceVisit.visits id c.args.visitor.now c.visit-2.new.visitor c.args.self.now _
-    c.behind-fork-4.inside.more c.visit-2.new.self c.visit-2.result
+    c.behind-fork-3.inside.more c.visit-2.new.self c.visit-2.result
     (ap (find (is_attached id)) f.is ∙ finds_more id v.less v.row v.more f.sorted apart not_first ∙ ap (find (is_attached id)) (sym side))
     (λ place is. whole c.visit-2.new.self ∙ ap (λ ys. v.less ++ v.row ∷ ys) (is ∙ ap (update_first (is_attached id) (at_place place)) side)
     ∙ sym (changes_more id v.less v.row v.more f.sorted apart not_first (at_place place)) ∙ ap (update_first (is_attached id) (at_place place)) (sym f.is))

@@ -7,7 +7,7 @@ use Rattle.radio_attachments.proofs.tree.AttachmentTree.put.Goals as goal
 pub invariant_of-self : goal.invariant_of-self
 invariant_of-self c =
     let is = c.min-self-inside.ensures in
-    let his = ap (λ (row : Attachment). row.place) c.row-row.ensures in
+    let his = ap (λ (row : Attachment). row.place) c.row.ensures in
     subst (IsBound c.min-self-inside.result) (sym c.put.ensures)
     (each_put (λ (row : Attachment). c.min-self-inside.result ≤ row.place) c.args.boxed c.self.inside.root (omega (arith, is, his))
     (lower_bound c.self.inside.least c.min-self-inside.result (omega (arith, is)) c.self.inside.root c.self.invariant))

@@ -16,4 +16,4 @@ returns g c = served_in_turn g.S.Server.steps c.flush.ensures
     (empty_is c.flush.new.conn.outgoing
     (sym (ap (λ (xs : List ℕ). length xs == 0) (c.rest.ensures ∙ ap (λ (o : Connection). o.outgoing) c.conn.view_is)) ∙ sym c.is_empty.ensures
     ∙ c.if-not-is_empty.false))
-    c.work.ensures c.leave-2.ensures c.flush-2.ensures c.leave-3.ensures
+    c.work.ensures c.end_turn.ensures.leaves c.end_turn.ensures.flushes c.end_turn.ensures.again

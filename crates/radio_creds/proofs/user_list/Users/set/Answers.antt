@@ -1,6 +1,5 @@
 use Rattle.std.proofs.Common.{ap, ◌∙◌}
 use Rattle.std.specs.FinMap as finite
-use Rattle.md5.specs.Md5.{md5}
 use Rattle.radio_creds.specs.UserList.{listed}
 use Rattle.radio_creds.proofs.ListedLemmas.{listed-inserted}
 use Rattle.radio_creds.proofs.user_list.Users.set.Goals as goal

@@ -2,6 +2,6 @@ use Rattle.radio_events.specs.declared.event.Event.TheVariants.{Draw}
 use Rattle.radio_locks.proofs.Replies.{drawn_by}
 use Rattle.radio_locks.proofs.hall.Hall.draw_at.Goals as goal
 
-pub returns-in-Some-deref_mut : goal.returns-in-Some-deref_mut
-returns-in-Some-deref_mut g c =
+pub returns : goal.returns
+returns g c =
     drawn_by g.H.Origin.opening _ c.draw.new.self (Draw c.args.id c.args.room) c.draw.result c.draw.ensures.done

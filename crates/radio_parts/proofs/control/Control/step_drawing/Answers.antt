@@ -1,35 +1,43 @@
-use Rattle.std.proofs.Common.{◌≡◌, Some, List, ap, sym, ◌∙◌}
-use Rattle.radio_seats_rows.specs.declared.seat.Listener.{Listener}
-use Rattle.radio_seats_rows.specs.Seats.{seat_of}
+use Rattle.std.proofs.Common.{ℕ, Option, ap, sym, ◌∙◌, arith}
 use Rattle.radio_seats.specs.Lent.{lent_seat}
 use Rattle.radio_parts_changes.specs.KeptChanges.{kept_changed}
+use Rattle.radio_parts_changes.specs.declared.change.Change.TheVariants.{Advance}
+use Rattle.radio_parts_changes.proofs.DueLemmas.{advanced_due}
+use Rattle.radio_parts_station.specs.World.{World}
 use Rattle.radio_parts.specs.declared.outcome.Outcome.{Outcome}
-use Rattle.radio_parts.specs.Common.{common_of}
-use Rattle.radio_parts.specs.Draw.{comes_to, draws}
-use Rattle.radio_parts.proofs.CommonLemmas.{common_drawn}
-use Rattle.radio_parts.proofs.SeatedDraws.{draws_seated}
+use Rattle.radio_parts.specs.Draw.{comes_to, moves_to}
+use Rattle.radio_parts.proofs.SeatedDraws.{drawn_so}
 use Rattle.radio_parts.proofs.control.Control.step_drawing.Goals as goal
+
+pub returns-in_default-place-clause-ok : goal.returns-in_default-place-clause-ok
+returns-in_default-place-clause-ok c can =
+    let w = c.args.self.now in
+    let drawn = drawn_so w c.args.id c.args.room c.seats.result.now.seats (lent_seat c.in-Some.hearing.seat) (comes_to c.args.id c.in_ok-reply.field-0)
+    c.seats.ensures.seats c.in-Some.ensures.0 can (λ kept. c.in_ok-reply.ensures kept) in
+    ap (λ (place : Option ℕ). kept_changed w (moves_to c.args.id place)) (sym c.in_default-place.is) ∙ ap (λ (o : Outcome). kept_changed w o.change) (sym drawn)
+
+pub returns-in_default-place-clause-told : goal.returns-in_default-place-clause-told
+returns-in_default-place-clause-told c can =
+    let w = c.args.self.now in
+    let drawn = drawn_so w c.args.id c.args.room c.seats.result.now.seats (lent_seat c.in-Some.hearing.seat) (comes_to c.args.id c.in_ok-reply.field-0)
+    c.seats.ensures.seats c.in-Some.ensures.0 can (λ kept. c.in_ok-reply.ensures kept) in
+    ap (λ (o : Outcome). o.reply) (sym drawn)
+
+pub invariant_of-self : goal.invariant_of-self
+invariant_of-self c =
+    rw c.advance_at.ensures (advanced_due c.self.inside.state c.args.id c.in-Some-place.place c.self.inside.due_from (omega arith) c.self.invariant)
 
 pub returns-clause-ok : goal.returns-clause-ok
 returns-clause-ok c can =
     let w = c.args.self.now in
-    let seat = lent_seat c.in-Some.hearing.seat in
-    let has : seat_of w.seats c.args.id ≡ Some seat
-    = ap (λ (seats : List Listener). seat_of seats c.args.id) (sym c.seats.ensures.seats) ∙ c.in-Some.ensures.0 in
-    let drawn : draws w c.args.id c.args.room ≡ comes_to c.args.id c.in_ok-reply.field-0 =
-    draws_seated w c.args.id c.args.room seat (can.sits seat has) has ∙ sym (c.in_ok-reply.ensures (can.kept seat has)) in
-    c.advance_at.ensures ∙ ap (λ (o : Outcome). kept_changed w o.change) (sym drawn)
+    let drawn = drawn_so w c.args.id c.args.room c.seats.result.now.seats (lent_seat c.in-Some.hearing.seat) (comes_to c.args.id c.in_ok-reply.field-0)
+    c.seats.ensures.seats c.in-Some.ensures.0 can (λ kept. c.in_ok-reply.ensures kept) in
+    c.advance_at.ensures ∙ ap (λ (v : World). kept_changed v (Advance c.args.id c.in-Some-place.place)) c.self.view_is
+    ∙ ap (λ (place : Option ℕ). kept_changed w (moves_to c.args.id place)) (sym c.in-Some-place.is) ∙ ap (λ (o : Outcome). kept_changed w o.change) (sym drawn)
 
 pub returns-clause-told : goal.returns-clause-told
 returns-clause-told c can =
     let w = c.args.self.now in
-    let seat = lent_seat c.in-Some.hearing.seat in
-    let has : seat_of w.seats c.args.id ≡ Some seat
-    = ap (λ (seats : List Listener). seat_of seats c.args.id) (sym c.seats.ensures.seats) ∙ c.in-Some.ensures.0 in
-    let drawn : draws w c.args.id c.args.room ≡ comes_to c.args.id c.in_ok-reply.field-0 =
-    draws_seated w c.args.id c.args.room seat (can.sits seat has) has ∙ sym (c.in_ok-reply.ensures (can.kept seat has)) in
+    let drawn = drawn_so w c.args.id c.args.room c.seats.result.now.seats (lent_seat c.in-Some.hearing.seat) (comes_to c.args.id c.in_ok-reply.field-0)
+    c.seats.ensures.seats c.in-Some.ensures.0 can (λ kept. c.in_ok-reply.ensures kept) in
     ap (λ (o : Outcome). o.reply) (sym drawn)
-
-pub returns-clause-common : goal.returns-clause-common
-returns-clause-common c =
-    ap common_of c.advance_at.ensures ∙ common_drawn c.args.self.now c.args.id c.in_ok-reply.field-0.place

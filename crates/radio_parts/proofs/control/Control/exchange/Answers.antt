@@ -1,5 +1,5 @@
 use Rattle.radio_parts_changes.proofs.LentState.{lent_due_by}
-use Rattle.radio_parts_changes.proofs.timed_state.TimedState.exchange.Goals as goal
+use Rattle.radio_parts.proofs.control.Control.exchange.Goals as goal
 
 pub invariant_of-self : goal.invariant_of-self
 invariant_of-self c =
