@@ -210,11 +210,16 @@ fn adds_book(
     list: u64,
     queue: u64,
 ) -> bool {
-    match MountName::read(path.as_bytes()) {
-        Some(mount) => mounts
-            .push(MountBook::new(alloc, mount, list, queue))
-            .is_ok(),
-        None => false,
+    let Some(mount) = MountName::read(path.as_bytes()) else {
+        return false;
+    };
+    match MountBook::new(alloc, mount, queue) {
+        Ok(book) => {
+            let mut book = book;
+            book.set_list(list);
+            mounts.push(book).is_ok()
+        }
+        Err(_) => false,
     }
 }
 

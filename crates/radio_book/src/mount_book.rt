@@ -27,22 +27,28 @@ pub enum Own {
     Elsewhere(Event),
 }
 
+/// What is large of a mount's book. It is in an allocation of its own, so that a book moves for little into and out of its lock.
+#[derive(Drop)]
+struct BookParts {
+    mount: MountName,
+    part: Option<ListedPart>,
+    /// What the control had in the place of the part that is lent: it goes back there, so that nothing has to be made anew.
+    stand_in: Option<ListedPart>,
+}
+
 /// A mount's part, with the number of its list. Contracts see the part, unless the control has it.
 pub struct MountBook<C: Chronicle> {
     alloc: Global,
-    mount: MountName,
     list: u64,
-    part: Option<ListedPart>,
     moment: u64,
     queue: u64,
     /// How many items its list had when the part was lent last.
     items: u64,
     /// When the last block of its session had come when the part was put in the control last, in milliseconds.
     last_block: u64,
-    /// What the control had in the place of the part that is lent: it goes back there, so that nothing has to be made anew.
-    stand_in: Option<ListedPart>,
     /// What the control has in the place of the part that is here knows of a block that came then or later, in milliseconds.
     known_block: u64,
+    parts: Box<BookParts>,
     of: PhantomData<C>,
 }
 
@@ -58,38 +64,48 @@ impl<C: Chronicle> Model for MountBook<C> {
 
     ghost Value = { BookOfMount };
 
-    ghost view = { λ b. record { mount = b.mount; list = b.list; part = b.part; moment = b.moment; queue = b.queue } };
+    ghost view = { λ b. record { mount = b.parts.value.mount; list = b.list; part = b.parts.value.part; moment = b.moment; queue = b.queue } };
 }
 
 impl<C: Chronicle> MountBook<C> {
-    /// Returns the book of a mount whose part the control has. Its list has this number; at least so many bytes of the
-    /// mount's stream are kept. It takes no memory.
-    pub fn new(alloc: Global, mount: MountName, list: u64, queue: u64) -> MountBook<C>
-        ensures { result ≡ record { mount = mount; list = list; part = None; moment = 0; queue = queue } }
+    /// Returns the book of a mount whose part the control has, with no list yet. At least so many bytes of the mount's stream are
+    /// kept. `OutOfMemory` if memory was refused.
+    pub fn new(alloc: Global, mount: MountName, queue: u64) -> Result<MountBook<C>, OutOfMemory>
+        ensures { IfOk result (λ book. book ≡ record { mount = mount; list = 0; part = None; moment = 0; queue = queue }) }
     {
-        MountBook {
-            alloc,
+        let parts = BookParts {
             mount,
-            list,
             part: None,
+            stand_in: None,
+        };
+        Ok(MountBook {
+            alloc,
+            list: 0,
             moment: 0,
             queue,
             items: 0,
             last_block: LAST_MOMENT,
-            stand_in: None,
             known_block: LAST_MOMENT,
+            parts: Box::new(alloc, parts)?,
             of: PhantomData,
-        }
+        })
+    }
+
+    /// Sets the number of its list, counted from 1.
+    pub fn set_list(&mut self, list: u64)
+        ensures { self.new ≡ record self.old { list = list } }
+    {
+        self.list = list;
     }
 
     /// Returns the mount.
     pub fn mount(&self) -> &MountName
         ensures { result.now ≡ self.now.mount }
     {
-        &self.mount
+        &self.parts.mount
     }
 
-    /// Returns the number of its list, counted from 1.
+    /// Returns the number of its list, counted from 1; 0 if it has none.
     pub fn list(&self) -> u64
         ensures { result ≡ self.now.list }
     {
@@ -101,10 +117,10 @@ impl<C: Chronicle> MountBook<C> {
         ensures some { IsTrue result → (self.old.part ≡ None) × (self.new ≡ record self.old { mount = mount }) }
         ensures none { result ≡ false → self.new ≡ self.old }
     {
-        if self.part.is_some() || self.items > 0 {
+        if self.parts.part.is_some() || self.items > 0 {
             return false;
         }
-        self.mount = mount;
+        self.parts.mount = mount;
         true
     }
 
@@ -128,9 +144,22 @@ impl<C: Chronicle> MountBook<C> {
         ensures err_pass { OnErr result (pass.new ≡ pass.old) }
     {
         if C::KEEPS {
-            self.note(&mut pass.holdings, event)
-        } else {
-            self.answer(event)
+            return self.note(&mut pass.holdings, event);
+        }
+        if let Some((id, room)) = draw_in(&event) {
+            drop(event);
+            return self.answer_draw(id, room);
+        }
+        match step_here(
+            self.alloc,
+            &mut self.parts.part,
+            self.moment,
+            self.queue,
+            event,
+        ) {
+            Ok(PartAnswer::Replied(reply)) => Ok(Own::Made(reply)),
+            Ok(PartAnswer::Elsewhere(same)) => Ok(Own::Elsewhere(same)),
+            Err(refused) => Err(refused),
         }
     }
 
@@ -143,7 +172,7 @@ impl<C: Chronicle> MountBook<C> {
         ensures done { CanOwn self.old (Draw id room) → IfOk result (λ reply. IsReplyHere self.old (Draw id room) reply self.new) }
         ensures err { OnErr result (self.new ≡ self.old) }
     {
-        let Some(part) = &mut self.part else {
+        let Some(part) = &mut self.parts.part else {
             return Ok(None);
         };
         part.draw(self.alloc, id, room)
@@ -157,13 +186,13 @@ impl<C: Chronicle> MountBook<C> {
         if !is_reached {
             return;
         }
-        let Some(part) = self.part.take() else {
+        let Some(part) = self.parts.part.take() else {
             return;
         };
         self.last_block = last_block(&part);
         match control.exchange(part) {
-            Ok(there) => self.stand_in = Some(there),
-            Err(part) => self.part = Some(part),
+            Ok(there) => self.parts.stand_in = Some(there),
+            Err(part) => self.parts.part = Some(part),
         }
     }
 
@@ -172,15 +201,16 @@ impl<C: Chronicle> MountBook<C> {
         ensures { IsBack self.old self.new control.old control.new }
     {
         self.moment = control.time();
-        if self.part.is_some() {
+        let parts = &mut *self.parts;
+        if parts.part.is_some() {
             return;
         }
         let timeout = control.settings().limits.source_timeout.get();
-        drop_old(&mut self.stand_in, self.last_block, self.moment, timeout);
-        let stand_in = self.stand_in.take();
+        drop_old(&mut parts.stand_in, self.last_block, self.moment, timeout);
+        let stand_in = parts.stand_in.take();
         let known = last_block_of(&stand_in);
-        self.part = control.take_out_for(&self.mount, stand_in);
-        self.known_block = known.min(last_block_of(&self.part));
+        parts.part = control.take_out_for(&parts.mount, stand_in);
+        self.known_block = known.min(last_block_of(&parts.part));
     }
 
     /// Returns whether the session may be due at this moment, in milliseconds, by the part that is here, or as the control knows it.
@@ -188,7 +218,7 @@ impl<C: Chronicle> MountBook<C> {
     pub(crate) fn may_be_due(&self, timeout: u32, ms: u64) -> bool
         ensures { result ≡ false → IsNotDue timeout ms self.now }
     {
-        let Some(part) = &self.part else {
+        let Some(part) = &self.parts.part else {
             return false;
         };
         due_at(timeout, self.known_block.min(last_block(part))) <= ms
@@ -196,7 +226,7 @@ impl<C: Chronicle> MountBook<C> {
 
     /// Returns how many items its list has, or had when the part was lent.
     fn item_count(&self) -> u64 {
-        match &self.part {
+        match &self.parts.part {
             Some(part) => part.item_count(),
             None => self.items,
         }
@@ -219,37 +249,22 @@ impl<C: Chronicle> MountBook<C> {
     {
         let MountBook {
             alloc: _,
-            mount,
             list: _,
-            part,
             moment: _,
             queue: _,
             items: _,
             last_block: _,
-            stand_in,
             known_block: _,
+            parts,
             of: _,
         } = self;
+        let BookParts {
+            mount,
+            part,
+            stand_in,
+        } = Box::into_inner(parts);
         drop(stand_in);
         (mount, part)
-    }
-
-    /// Does what the event does, if nothing is stored.
-    fn answer(&mut self, event: Event) -> Result<Own, OutOfMemory>
-        requires { C.KEEPS ≡ false }
-        ensures back { IfOk result (λ own. GivesBack event own) }
-        ensures done { CanOwn self.old event → IfOk result (λ own. IsDone self.old event own self.new) }
-        ensures err { OnErr result (self.new ≡ self.old) }
-    {
-        if let Some((id, room)) = draw_in(&event) {
-            drop(event);
-            return self.answer_draw(id, room);
-        }
-        match step_here(self.alloc, &mut self.part, self.moment, self.queue, event) {
-            Ok(PartAnswer::Replied(reply)) => Ok(Own::Made(reply)),
-            Ok(PartAnswer::Elsewhere(same)) => Ok(Own::Elsewhere(same)),
-            Err(refused) => Err(refused),
-        }
     }
 
     /// Does what a draw does, if nothing is stored.
@@ -312,9 +327,10 @@ impl<C: Chronicle> MountBook<C> {
     {
         let stamp = Stamp {
             list: self.list,
-            serial: items_here(&self.part).saturating_add(1),
+            serial: items_here(&self.parts.part).saturating_add(1),
         };
-        let stepped = step_twice_here(self.alloc, &mut self.part, self.moment, self.queue, event);
+        let parts = &mut *self.parts;
+        let stepped = step_twice_here(self.alloc, &mut parts.part, self.moment, self.queue, event);
         note_own(holdings, stamp, held, stepped)
     }
 }

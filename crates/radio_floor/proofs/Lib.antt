@@ -1,4 +1,5 @@
 mod ExchangeLemmas
+mod AnsweredLemmas
 mod ToldLemmas
 mod CoreDataLemmas
 mod Simulation

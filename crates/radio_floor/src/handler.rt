@@ -12,6 +12,7 @@ ghost use Rattle.radio_floor.specs.ScriptState.{exchanges, closes, connection_un
 ghost use Rattle.radio_floor.specs.ScriptServer.{AnswersAs};
 
 use crate::labelled::{Connection, Labelled};
+use crate::one_draw::exchange_draw;
 use crate::{OutOfMemory, cores_exchange_as_their_states};
 use radio_core::Core;
 use radio_events::Event;
@@ -20,6 +21,7 @@ use radio_session::{Ending, Session, State, exchange};
 use radio_tables::RowVisit;
 use radio_values::Title;
 use std::alloc::Global;
+use std::mem;
 
 /// What a delivery yields on a connection: the bytes to write, and how the connection goes on.
 #[derive(Drop)]
@@ -33,6 +35,8 @@ pub(crate) struct DeliveryAnswer {
 pub(crate) struct Handler {
     pub(crate) alloc: Global,
     pub(crate) core: Core,
+    /// The memory of the last answer, for the next one.
+    pub(crate) spare: Vec<u8>,
 }
 
 impl Handler {
@@ -81,13 +85,15 @@ impl Handler {
         self.exchange(connection, events)
     }
 
-    /// Serves room for so many bytes on the connection.
+    /// Serves room for so many bytes on the connection. It makes no list of events, since a listener draws for each block.
     fn draw(&mut self, connection: &mut Session, room: u32) -> Result<DeliveryAnswer, OutOfMemory>
         ensures { IfOk result (λ answered. AnswersAs self.old.core self.new.core answered (Connection.Client connection.new)
             (λ state label done. exchanges state label connection.old (Event.Draw connection.old.id room ∷ []) ≡ done)) }
     {
-        let id = connection.id();
-        self.event(connection, Event::Draw { id, room })
+        cores_exchange_as_their_states();
+        let mut bytes = self.empty_answer();
+        let state = exchange_draw(&mut self.core, connection, room, &mut bytes)?;
+        Ok(DeliveryAnswer { bytes, state })
     }
 
     /// Serves a title that its source names.
@@ -140,9 +146,19 @@ impl Handler {
             (λ state label done. exchanges state label connection.old events.items ≡ done)) }
     {
         cores_exchange_as_their_states();
-        let mut bytes = Vec::new(self.alloc);
+        let mut bytes = self.empty_answer();
         let state = exchange(&mut self.core, connection, events, &mut bytes)?;
         Ok(DeliveryAnswer { bytes, state })
+    }
+
+    /// Returns no bytes, in the memory of the last answer.
+    fn empty_answer(&mut self) -> Vec<u8>
+        ensures bytes { result.items ≡ [] }
+        ensures core { self.new.core ≡ self.old.core }
+    {
+        let mut bytes = mem::replace(&mut self.spare, Vec::new(self.alloc));
+        bytes.clear();
+        bytes
     }
 }
 

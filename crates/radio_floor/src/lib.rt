@@ -3,7 +3,7 @@
 //! - [`play`]: a script from a reader, its transcript to a writer; [`run`]: a list of deliveries.
 //! - The server as the performer of deliveries: `script_server` (its core, and the connections of the
 //!   labels), `labelled`, `handler` and `relay_handler` (what arrives on a client's connection, and on
-//!   a relay's), and `performing`.
+//!   a relay's), `one_draw` (a listener's draw), and `performing`.
 //! - Laws, which run no code, on scripts: [`the_transcript_is_one`], [`last_words_are_told`], [`scripts_come_to_events`]; on
 //!   sessions over a core: [`cores_exchange_as_their_states`], [`cores_go_by_data`], [`exchanges_tell_replies`]; on pulls of
 //!   relays over one: [`cores_pull_as_their_states`], [`pulling_is_one`].
@@ -17,6 +17,7 @@ mod exchange_laws;
 mod handler;
 mod labelled;
 mod laws;
+mod one_draw;
 mod performing;
 mod pulls;
 mod relay_handler;

@@ -10,7 +10,6 @@ use crate::labelled::has_label;
 use crate::script_server::{ScriptServer, push_lines};
 use radio_addr::Peer;
 use radio_script::{Delivery, Input, PerformFault, Performer};
-use std::alloc::Global;
 
 impl ScriptServer {
     fn perform_delivery(
@@ -82,7 +81,9 @@ impl ScriptServer {
         match self.connections.visit(&label, &mut self.handler, input) {
             None => Err(PerformFault::Label),
             Some(Ok(None)) => Ok(()),
-            Some(Ok(Some(answered))) => write_answer(self.handler.alloc, label, answered, lines),
+            Some(Ok(Some(answered))) => {
+                write_answer(label, answered, &mut self.handler.spare, lines)
+            }
             Some(Err(_)) => Err(PerformFault::OutOfMemory),
         }
     }
@@ -105,34 +106,26 @@ impl Performer for ScriptServer {
 
     ghost performs = { λ old delivery lines new. (new.web ≡ old.web) × Performs old.web old.handler.core old.connections delivery lines new.handler.core new.connections };
 
-    fn perform(
-        &mut self,
-        _alloc: Global,
-        delivery: &Delivery,
-        lines: &mut Vec<u8>,
-    ) -> Result<(), PerformFault> {
+    fn perform(&mut self, delivery: &Delivery, lines: &mut Vec<u8>) -> Result<(), PerformFault> {
         self.perform_delivery(delivery, lines)
     }
 }
 
-/// Writes the lines of one delivery.
+/// Writes the lines of one delivery, and keeps the memory of its bytes in `spare`.
 fn write_answer(
-    alloc: Global,
     label: u32,
     answered: DeliveryAnswer,
+    spare: &mut Vec<u8>,
     lines: &mut Vec<u8>,
 ) -> Result<(), PerformFault>
     ensures { MatchResult result
         (λ _. lines.new.items ≡ lines.old.items ++ written_lines label answered.bytes.items answered.state)
         (λ fault. fault ≡ PerformFault.OutOfMemory) }
 {
-    match push_lines(
-        alloc,
-        label,
-        answered.bytes.as_slice(),
-        answered.state,
-        lines,
-    ) {
+    let DeliveryAnswer { bytes, state } = answered;
+    let pushed = push_lines(label, bytes.as_slice(), state, lines);
+    *spare = bytes;
+    match pushed {
         Ok(()) => Ok(()),
         Err(_) => Err(PerformFault::OutOfMemory),
     }

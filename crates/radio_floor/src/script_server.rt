@@ -53,6 +53,7 @@ impl ScriptServer {
             handler: Handler {
                 alloc,
                 core: Core::new(alloc, settings, lists),
+                spare: Vec::new(alloc),
             },
             connections: Table::new(alloc),
         }
@@ -79,7 +80,7 @@ impl ScriptServer {
             &mut bytes,
         )?;
         self.connections.insert(Labelled { label, connection })?;
-        push_lines(alloc, label, bytes.as_slice(), state, lines)?;
+        push_lines(label, bytes.as_slice(), state, lines)?;
         Ok(())
     }
 
@@ -104,7 +105,7 @@ impl ScriptServer {
         let request = request_text(alloc, relay)?;
         let connection = Some(Connection::Relay(RelayPull::new(alloc, relay.local_mount)));
         self.connections.insert(Labelled { label, connection })?;
-        push_lines(alloc, label, request.as_slice(), State::Running, lines)?;
+        push_lines(label, request.as_slice(), State::Running, lines)?;
         Ok(true)
     }
 }
@@ -188,7 +189,6 @@ fn taken_in(alloc: Global, web: WebAnswers, peer: Peer, reply: &Reply) -> Option
 /// Adds the lines of one delivery: the bytes that were written, and how the connection ended, if it
 /// did.
 pub(crate) fn push_lines(
-    alloc: Global,
     label: u32,
     bytes: &[u8],
     state: State,
@@ -197,7 +197,7 @@ pub(crate) fn push_lines(
     ensures { OnOk result (lines.new.items ≡ lines.old.items ++ written_lines label bytes.now state) }
 {
     match state {
-        State::Running => push_answer(alloc, lines, label, bytes, None),
-        State::Shut(ending) => push_answer(alloc, lines, label, bytes, Some(ending.word())),
+        State::Running => push_answer(lines, label, bytes, None),
+        State::Shut(ending) => push_answer(lines, label, bytes, Some(ending.word())),
     }
 }

@@ -1,7 +1,8 @@
 //! What a line gives and takes in a turn, as plain values. Moments are in milliseconds.
 
-ghost use Rattle.std.specs.Prelude.{◌≡◌};
+ghost use Rattle.std.specs.Prelude.{◌≡◌, ℕ, true};
 ghost use Rattle.radio_connections.specs.declared.line.Received.TheVariants.{Bytes, Closed};
+ghost use Rattle.radio_lines.specs.declared.ready.Ready.{Ready};
 ghost use Rattle.radio_lines.specs.Courses.{course_after_bytes, after_closing, fresh_course, call_of, closing_found, holds_closing, passes_closing, line_reading, source_bytes, writing_of};
 
 use crate::activity::{LineTurn, Need};
@@ -221,5 +222,15 @@ pub(crate) fn writing_of(sent: Sent, count: usize, ready: Ready, ms: u64) -> Wri
             need: Need::Nothing,
             ready,
         },
+    }
+}
+
+/// Returns whether a socket that was asked to take so many bytes took all of them. If it did, it stays as ready as it was.
+pub(crate) fn took_all(sent: Sent, count: usize) -> bool
+    ensures { (ready : Ready) (ms : ℕ) → result ≡ true → (writing_of sent count ready ms).ready ≡ ready }
+{
+    match sent {
+        Sent::Took(taken) => taken >= count,
+        Sent::Nothing | Sent::Fault => false,
     }
 }

@@ -6,7 +6,7 @@ ghost use Rattle.radio_lines.specs.Courses.{fresh_course};
 ghost use Rattle.radio_lines.specs.Streams.{IsGivenBy, IsTakenBy};
 
 use crate::activity::{Activity, Need};
-use crate::course::{Course, ReadCall, Reading, writing_of};
+use crate::course::{Course, ReadCall, Reading, took_all, writing_of};
 use crate::readiness::Readiness;
 use crate::stream::{Shut, read_once, write_once};
 use radio_connections::{CallCount, History, Line, Received, Sent};
@@ -67,6 +67,18 @@ impl<S: Read + Write + Shut + Drop> SocketLine<S> {
         if !self.readiness.is_readable() {
             return Received::Nothing;
         }
+        self.receive_some(buffer)
+    }
+
+    /// Does the same for a socket that may have something to read. It is a function of its own, since each turn would clear its locals
+    /// otherwise, and in most turns nothing is read.
+    #[inline(never)]
+    fn receive_some(&mut self, buffer: &mut [u8]) -> Received
+        ensures given { HasGiven result buffer.new self.old.given.items self.new.given.items }
+        ensures stream { IsGivenBy (S.remaining self.old.stream) (S.remaining self.new.stream) buffer.new result }
+        ensures taken { self.new.taken ≡ self.old.taken }
+        ensures calls { self.new.calls ≡ self.old.calls }
+    {
         let turn = self.activity.turn();
         let mut ready = self.readiness.load();
         match self.course.call(ready, turn) {
@@ -115,7 +127,10 @@ impl<S: Read + Write + Shut + Drop> SocketLine<S> {
         }
         let sent = write_once(&mut self.stream, bytes, &mut ready, ms);
         let writing = writing_of(sent, bytes.len(), ready, ms);
-        self.readiness.store(writing.ready);
+        // most writes take all, and the socket stays as ready as it was
+        if !took_all(sent, bytes.len()) {
+            self.readiness.store(writing.ready);
+        }
         self.activity.note(writing.need, 0);
         if let Sent::Took(count) = sent {
             self.taken.note(&bytes[..count]);

@@ -1,13 +1,14 @@
 //! One call of a stream that never waits, and its result.
 
 ghost use Rattle.std.specs.Prelude.{◌≡◌};
+ghost use Rattle.std.specs.IoError.{error_kind};
 ghost use Rattle.radio_lines.specs.Hitches.{IsReadyToRead, IsReadyToWrite, hitch_of, ready_to_read, ready_to_write, received_at, sent_at};
 ghost use Rattle.radio_lines.specs.Streams.{IsGivenBy, IsTakenBy};
 
 use crate::ready::Ready;
 use mio::net::TcpStream;
 use radio_connections::{Received, Sent};
-use std::io::{ErrorKind, Read, Write};
+use std::io::{self, ErrorKind, Read, Write};
 use std::net::Shutdown;
 
 /// A stream whose writing side can be shut.
@@ -43,6 +44,15 @@ fn hitch_of(kind: ErrorKind) -> Hitch
         ErrorKind::Interrupted => Hitch::BrokenOff,
         _ => Hitch::Failed,
     }
+}
+
+/// Returns why a call did nothing that has ended with this fault. Few calls do, so it is a function of its own.
+#[cold]
+#[inline(never)]
+fn hitch_at(error: io::Error) -> Hitch
+    ensures { result ≡ hitch_of (error_kind error) }
+{
+    hitch_of(error.kind())
 }
 
 impl Hitch {
@@ -96,7 +106,7 @@ pub(crate) fn read_once<S: Read>(stream: &mut S, buffer: &mut [u8], ready: &mut 
         Ok(0) => Received::Closed,
         Ok(count) => Received::Bytes(count),
         Err(error) => {
-            let hitch = hitch_of(error.kind());
+            let hitch = hitch_at(error);
             *ready = hitch.after_read(*ready);
             hitch.received()
         }
@@ -114,7 +124,7 @@ pub(crate) fn write_once<S: Write>(stream: &mut S, bytes: &[u8], ready: &mut Rea
         Ok(0) => Sent::Nothing,
         Ok(count) => Sent::Took(count),
         Err(error) => {
-            let hitch = hitch_of(error.kind());
+            let hitch = hitch_at(error);
             *ready = hitch.after_write(*ready, ms);
             hitch.sent()
         }

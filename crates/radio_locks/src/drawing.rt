@@ -5,6 +5,7 @@ ghost use Rattle.radio_events.specs.declared.event.Event.TheVariants.{Draw};
 ghost use Rattle.radio_locks.specs.Callers.{IsResultOfStep};
 ghost use Rattle.radio_locks.specs.Replies.{IsReplied, IsRepliedIf};
 
+use crate::mount_locks::locked;
 use crate::{Hall, OutOfMemory};
 use radio_book::{Chronicle, Origin, Pass};
 use radio_events::{Event, Reply};
@@ -64,7 +65,7 @@ impl<C: Chronicle, H: Origin> Hall<C, H> {
         let Some(lock) = self.lock_of(list) else {
             return Ok(None);
         };
-        let mut guard = lock.lock(rt);
+        let mut guard = locked(rt, lock);
         let Some(book) = &mut *guard else {
             return Ok(None);
         };

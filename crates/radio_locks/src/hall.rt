@@ -1,11 +1,8 @@
 //! The locks of a server.
 
-ghost use Rattle.std.specs.Prelude.{◌≡◌, ◌≤◌, ◌^◌, [], true, false, Some, IsOk, IfOk, IfSome, IfNone, OnErr, vec_len};
+ghost use Rattle.std.specs.Prelude.{◌≡◌, ◌^◌, [], false, IfOk, IfSome, IfNone, OnErr};
 ghost use Rattle.radio_book.specs.ControlLists.{AreWantedThere, HasNoPass, WasThere};
 ghost use Rattle.radio_book.specs.MountBooks.{GivesBack};
-ghost use Rattle.radio_book.specs.Newcomers.{is_here, leaver_of};
-ghost use Rattle.radio_book.specs.declared.newcomer.Newcomer.{Newcomer};
-ghost use Rattle.radio_events.specs.Events.{EventTakesNoMemory};
 ghost use Rattle.radio_parts_station.specs.World.{opening};
 ghost use Rattle.radio_locks.specs.Callers.{IsResultOfCall, IsResultOfStep, MayBeRefused, OwnGains};
 ghost use Rattle.radio_locks.specs.Replies.{IsReplyOrElsewhere};
@@ -13,9 +10,9 @@ ghost use Rattle.radio_locks.specs.Replies.{IsReplyOrElsewhere};
 use crate::OutOfMemory;
 use crate::concerned::mount_in;
 use crate::locked_control::LockedControl;
-use crate::mount_locks::MountLock;
+use crate::mount_locks::{MountLock, locked};
 use radio_access::Lists;
-use radio_book::{Book, Chronicle, MountBook, Origin, Own, Pass, Receipt, leaver_of};
+use radio_book::{Chronicle, Origin, Own, Pass, Receipt, leaver_of};
 use radio_connections::Gate;
 use radio_events::{Asked, Command, Event, Reply, SharedServer};
 use radio_settings_values::Settings;
@@ -23,9 +20,6 @@ use radio_values::MountName;
 use std::alloc::Global;
 use std::sync::ledger::Blank;
 use std::sync::{Mutex, MutexGuard, Wait};
-
-/// How often a caller tries to take the control's lock before it sleeps until that is free: it is held for a moment alone.
-const TRIES: u32 = 64;
 
 /// The server that threads call: the book of the control and the book of each mount, each under a lock of its own. What
 /// a mount's part does by itself waits for nobody at another mount. The lock of list n is at place n - 1.
@@ -167,14 +161,16 @@ impl<C: Chronicle, H: Origin> Hall<C, H> {
         let Some(lock) = self.lock_of(list) else {
             return Ok(Own::Elsewhere(event));
         };
-        let mut guard = lock.lock(rt);
+        let mut guard = locked(rt, lock);
         match &mut *guard {
             Some(book) => book.apply(pass, event),
             None => Ok(Own::Elsewhere(event)),
         }
     }
 
-    /// An event of the control, which is lent the parts that it concerns.
+    /// Applies an event of the control, which is lent the parts that it concerns. `OutOfMemory` if memory was refused, as for a book
+    /// of a mount that has none.
+    #[tactic(auto, using(crate::proofs::Replies::replied_by))]
     pub(crate) fn apply_by<R: Wait>(
         &self,
         rt: &R,
@@ -196,7 +192,13 @@ impl<C: Chronicle, H: Origin> Hall<C, H> {
         } = locked;
         self.take(rt, lent, concerned);
         let added = self.add_book(rt, lent, lists, mount_in(&event));
-        let applied = apply_lent(control, lent, added, pass, event);
+        let applied = match added {
+            Ok(()) => control.apply(pass, lent.as_mut_slice(), event),
+            Err(refused) => {
+                drop(event);
+                Err(refused)
+            }
+        };
         self.put_all(rt, lent);
         *has_set_fallback = *has_set_fallback || (sets_fallback && is_text(&applied));
         applied
@@ -204,12 +206,7 @@ impl<C: Chronicle, H: Origin> Hall<C, H> {
 
     /// The control, as soon as nobody else has it.
     pub(crate) fn enter<R: Wait>(&self, rt: &R) -> MutexGuard<'_, LockedControl<C, H>> {
-        for _ in 0..TRIES {
-            if let Some(locked) = self.control.try_lock() {
-                return locked;
-            }
-        }
-        self.control.lock(rt)
+        locked(rt, &self.control)
     }
 
     /// Returns the mounts where somebody sits, which relays feed on demand, in the order of their bytes. It makes no entry and no
@@ -255,7 +252,7 @@ impl<C: Chronicle, H: Origin> Hall<C, H> {
         let Some(lock) = self.lock_of(list) else {
             return;
         };
-        let book = lock.lock(rt);
+        let book = locked(rt, lock);
         gate.hold(0);
         gate.let_go(0);
         drop(book);
@@ -265,26 +262,6 @@ impl<C: Chronicle, H: Origin> Hall<C, H> {
 /// Returns how many bytes of a stream are kept at least.
 fn queue_of(settings: &Settings) -> u64 {
     settings.limits.queue_size.get() as u64
-}
-
-/// An event of the control over what is lent, unless memory was refused for a mount's book.
-#[tactic(auto, using(crate::proofs::Replies::replied_by))]
-fn apply_lent<C: Chronicle, H: Origin>(
-    control: &mut Book<C, H>,
-    lent: &mut Vec<MountBook<C>>,
-    added: Result<(), OutOfMemory>,
-    pass: &mut Pass<C, H>,
-    event: Event,
-) -> Result<Reply, OutOfMemory>
-    ensures called { IsResultOfStep C.KEEPS H.opening pass.old event result pass.new }
-    ensures leave { IsOk added → (one : Newcomer) → leaver_of event ≡ Some one → is_here one pass.old ≡ true → vec_len lent.old ≤ 1 → IsOk result }
-    ensures frees { IsOk added → C.KEEPS ≡ false → EventTakesNoMemory event → IsOk result }
-{
-    if let Err(refused) = added {
-        drop(event);
-        return Err(refused);
-    }
-    control.apply(pass, lent.as_mut_slice(), event)
 }
 
 /// Returns whether a text was replied, as to a command that was done.

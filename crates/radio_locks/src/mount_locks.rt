@@ -10,7 +10,11 @@ use crate::{Hall, OutOfMemory};
 use radio_book::{Chronicle, MountBook, Origin};
 use radio_values::MountName;
 use std::alloc::AllocError;
-use std::sync::{Mutex, Wait};
+use std::hint::spin_loop;
+use std::sync::{Mutex, MutexGuard, Wait};
+
+/// How often a thread tries to take a lock before it sleeps until that is free: each is held for a moment alone.
+const TRIES: u32 = 128;
 
 /// A mount's lock, which holds its book, or nothing while that is lent.
 pub(crate) type MountLock<C> = Mutex<Option<MountBook<C>>>;
@@ -83,10 +87,31 @@ impl<C: Chronicle, H: Origin> Hall<C, H> {
         if let Some(list) = reuse_one(lent.as_mut_slice(), lists, &mount) {
             return lists.set(mount, list);
         }
-        lent.reserve(1)?;
-        let list = self.add_lock(rt)?;
-        lent.push_reserved(MountBook::new(self.alloc, mount, list, self.queue));
+        let list = self.add_new(rt, lent, mount)?;
         lists.set(mount, list)
+    }
+
+    /// Adds a new book of the mount, with a lock that holds nothing yet. Returns the number of its list. `OutOfMemory` if memory was
+    /// refused.
+    fn add_new<R: Wait>(
+        &self,
+        rt: &R,
+        lent: &mut Vec<MountBook<C>>,
+        mount: MountName,
+    ) -> Result<u64, OutOfMemory> {
+        lent.reserve(1)?;
+        let mut book = MountBook::new(self.alloc, mount, self.queue)?;
+        match self.add_lock(rt) {
+            Ok(list) => {
+                book.set_list(list);
+                lent.push_reserved(book);
+                Ok(list)
+            }
+            Err(refused) => {
+                drop(book);
+                Err(refused)
+            }
+        }
     }
 
     /// Adds a lock that holds nothing, and returns the number of its list. `OutOfMemory` if memory was refused.
@@ -113,10 +138,21 @@ impl<C: Chronicle, H: Origin> Hall<C, H> {
     }
 }
 
+/// Takes the lock, as soon as nobody else has it.
+pub(crate) fn locked<'a, T, R: Wait>(rt: &R, lock: &'a Mutex<T>) -> MutexGuard<'a, T> {
+    for _ in 0..TRIES {
+        if let Some(guard) = lock.try_lock() {
+            return guard;
+        }
+        spin_loop();
+    }
+    lock.lock(rt)
+}
+
 /// Waits until the mount's book is in its lock, and takes it.
 fn take_out<R: Wait, C: Chronicle>(rt: &R, lock: &MountLock<C>) -> MountBook<C> {
     for _ in rt.forever() {
-        let mut guard = lock.lock(rt);
+        let mut guard = locked(rt, lock);
         if let Some(book) = guard.take() {
             return book;
         }
@@ -126,7 +162,7 @@ fn take_out<R: Wait, C: Chronicle>(rt: &R, lock: &MountLock<C>) -> MountBook<C> 
 
 /// Puts the book into its lock.
 fn put_back<R: Wait, C: Chronicle>(rt: &R, lock: &MountLock<C>, book: MountBook<C>) {
-    let mut guard = lock.lock(rt);
+    let mut guard = locked(rt, lock);
     *guard = Some(book);
 }
 

@@ -97,7 +97,6 @@ impl Draws<'_> {
 /// Draws from the session's stream at the place, at most `room` bytes, puts them behind the portion's data, and sets the place
 /// behind them. The portion gets the title of then. Nothing is handed out if the place was forgotten. `OutOfMemory` if memory
 /// was refused; the place is unchanged then.
-#[inline(never)]
 fn draw_from(
     session: &Session,
     room: u32,

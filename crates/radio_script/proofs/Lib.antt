@@ -1,3 +1,4 @@
+mod ByteLemmas
 mod EscapeLemmas
 pub mod DeviceLemmas
 mod SpellingLemmas

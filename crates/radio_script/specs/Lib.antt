@@ -9,6 +9,7 @@ pub mod Words
 pub mod Limits
 pub mod Devices
 pub mod Tally
+pub mod BufferedTally
 pub mod Reading
 pub mod Script
 pub mod Runs

@@ -51,16 +51,12 @@ pub fn read_delivery(alloc: Global, line: &[u8]) -> Result<Option<Delivery>, Out
 fn read_fields(alloc: Global, word: &[u8], fields: &[u8]) -> Result<Option<Delivery>, OutOfMemory>
     ensures { IfOk result (λ delivery. delivery ≡ delivery_of_fields word.now fields.now) }
 {
-    if word == b"open".as_slice() {
-        return Ok(read_open(fields));
+    match word {
+        b"open" => Ok(read_open(fields)),
+        b"in" => read_in(alloc, fields),
+        b"room" => Ok(read_room(fields)),
+        _ => read_other_fields(alloc, word, fields),
     }
-    if word == b"in".as_slice() {
-        return read_in(alloc, fields);
-    }
-    if word == b"room".as_slice() {
-        return Ok(read_room(fields));
-    }
-    read_other_fields(alloc, word, fields)
 }
 
 /// Reads the fields of any word other than `open`, `in` and `room`.
@@ -71,19 +67,13 @@ fn read_other_fields(
 ) -> Result<Option<Delivery>, OutOfMemory>
     ensures { IfOk result (λ delivery. delivery ≡ other_fields_of word.now fields.now) }
 {
-    if word == b"title".as_slice() {
-        return read_title(alloc, fields);
+    match word {
+        b"title" => read_title(alloc, fields),
+        b"end" => Ok(read_end(fields)),
+        b"pull" => read_pull(alloc, fields),
+        b"clock" => Ok(read_clock(fields)),
+        _ => Ok(None),
     }
-    if word == b"end".as_slice() {
-        return Ok(read_end(fields));
-    }
-    if word == b"pull".as_slice() {
-        return read_pull(alloc, fields);
-    }
-    if word == b"clock".as_slice() {
-        return Ok(read_clock(fields));
-    }
-    Ok(None)
 }
 
 #[tactic(auto, unfolding(crate::specs::Delivery::open_of))]
@@ -193,10 +183,21 @@ fn read_label(text: &[u8]) -> Option<u32>
     if label == 0 { None } else { Some(label) }
 }
 
-// Returns the decimal number of a text, if it fits in 32 bits.
+// Returns the decimal number of a text, if it fits in 32 bits. Most lines have two, so it is read in 64 bits.
+#[tactic(auto, unfolding(radio_texts::specs::Numbers::number_of))]
 fn read_decimal(text: &[u8]) -> Option<u32>
     ensures { result ≡ decimal_of text.now }
 {
-    let number = read_number(text, 10, u64::from(u32::MAX))?;
+    if text.is_empty() {
+        return None;
+    }
+    let mut number = 0u64;
+    for byte in text {
+        let digit = (*byte as char).to_digit(10)?;
+        number = number * 10 + u64::from(digit);
+        if number > u64::from(u32::MAX) {
+            return None;
+        }
+    }
     Some(number as u32)
 }

@@ -1,9 +1,9 @@
 //! Readers and writers that count their calls and their failures. So a contract can bound the calls, and say
 //! that a fault is the device's own.
 
-ghost use Rattle.std.specs.Prelude.{◌≡◌, ◌<◌, ◌≤◌, ℕ, Bool, true, length, IfOk, OnOk, OnErr};
+ghost use Rattle.std.specs.Prelude.{◌≡◌, ◌<◌, ◌≤◌, ◌∷◌, [], ℕ, Bool, true, length, IfOk, OnOk, OnErr, MatchOption};
 ghost use Rattle.std.specs.Io.{ReadsAtMost};
-ghost use Rattle.std.specs.Io.KnownBytes.{Keeps, ReadConsumes, WriteAppends};
+ghost use Rattle.std.specs.Io.KnownBytes.{Consumes, Keeps, ReadConsumes, WriteAppends};
 ghost use Rattle.radio_script.specs.Devices.{bumped};
 
 use std::io;
@@ -39,6 +39,16 @@ pub trait CountedRead: Read + Counted {
         ensures called { Self.calls self.new ≡ bumped (Self.calls self.old) }
         ensures ok { OnOk result (Self.failures self.new ≡ Self.failures self.old) }
         ensures err { OnErr result (Self.failures self.new ≡ bumped (Self.failures self.old)) };
+
+    /// Takes the next byte if the reader holds it already, and counts that as a call. If it returns `None`, nothing has
+    /// happened, and `read_counted` reads on.
+    fn take_held(&mut self) -> Option<u8>
+        ensures { MatchOption result (self.new ≡ self.old)
+            (λ byte. Consumes (Self.remaining self.old) (Self.remaining self.new) (byte ∷ [])
+            × (Self.calls self.new ≡ bumped (Self.calls self.old)) × (Self.failures self.new ≡ Self.failures self.old)) }
+    {
+        None
+    }
 }
 
 /// A writer that counts its calls and its failures.

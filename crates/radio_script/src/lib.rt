@@ -6,7 +6,7 @@
 //! - How large a script may be: [`MAX_LINES`], [`MAX_LINE`].
 //! - Faults: [`PlayFault`] of a script, [`RunFault`] of a list of deliveries, [`PerformFault`] of one delivery.
 //! - Devices that count their calls and their failures: [`Counted`], [`CountedRead`] and [`CountedWrite`].
-//!   A [`Tally`] makes one of any reader or writer.
+//!   A [`Tally`] makes one of any reader or writer. A [`BufferedTally`] is a reader of which a byte costs little.
 //! - Reading a line from any device: [`read_line`], and [`next_byte`] for one byte. Writing a whole text to one:
 //!   [`write_whole`].
 //! - Performing deliveries: [`Performer`].
@@ -16,6 +16,7 @@
 //!   [`scripts_have_one_transcript`] and [`transcripts_go_on_as_they_began`].
 #![tactic(auto)]
 
+mod buffered_tally;
 mod delivery;
 mod devices;
 mod escapes;
@@ -31,6 +32,7 @@ mod tally;
 mod transcript_lines;
 mod writing;
 
+pub use buffered_tally::BufferedTally;
 pub use delivery::{Delivery, Input, read_delivery};
 pub use devices::{Counted, CountedRead, CountedWrite};
 pub use escapes::{push_escaped, unescape};

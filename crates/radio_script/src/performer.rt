@@ -3,7 +3,6 @@
 ghost use Rattle.std.specs.Prelude.{◌≡◌, ◌++◌, ℕ, List, Option, None, Some, Err, OnOk};
 
 use crate::{Delivery, PerformFault};
-use std::alloc::Global;
 
 /// Performs deliveries, one after another, and gives the result of each.
 pub trait Performer {
@@ -17,12 +16,7 @@ pub trait Performer {
     /// that was not opened, or pulls for a mount that no relay feeds. `OutOfMemory` if memory was refused. There is
     /// no other error. After an `Err` the contract says nothing of the lines, and after `OutOfMemory` nothing of the
     /// performer: the script ends there.
-    fn perform(
-        &mut self,
-        alloc: Global,
-        delivery: &Delivery,
-        lines: &mut Vec<u8>,
-    ) -> Result<(), PerformFault>
+    fn perform(&mut self, delivery: &Delivery, lines: &mut Vec<u8>) -> Result<(), PerformFault>
         ensures ok { OnOk result ((text : List ℕ) × (lines.new.items ≡ lines.old.items ++ text)
             × performs self.old delivery.now (Some text) self.new) }
         ensures label { result ≡ Err PerformFault.Label

@@ -165,13 +165,12 @@ fn perform_line<P: Performer>(
     match read_delivery(alloc, line) {
         Err(_) => Err(PlayFault::OutOfMemory),
         Ok(None) => Err(PlayFault::Line { number }),
-        Ok(Some(delivery)) => perform_delivery(alloc, performer, number, &delivery, text),
+        Ok(Some(delivery)) => perform_delivery(performer, number, &delivery, text),
     }
 }
 
 // Performs the delivery of a line, and leaves its lines in `text`.
 fn perform_delivery<P: Performer>(
-    alloc: Global,
     performer: &mut P,
     number: u32,
     delivery: &Delivery,
@@ -181,7 +180,7 @@ fn perform_delivery<P: Performer>(
         → IsLineResult P.performs performer.old number line result text.new.items performer.new }
 {
     text.clear();
-    match performer.perform(alloc, delivery, text) {
+    match performer.perform(delivery, text) {
         Ok(()) => Ok(()),
         Err(PerformFault::Label) => Err(PlayFault::Line { number }),
         Err(PerformFault::OutOfMemory) => Err(PlayFault::OutOfMemory),

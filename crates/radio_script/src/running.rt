@@ -23,7 +23,7 @@ pub fn run_with<P: Performer>(
 {
     let mut text = Vec::new(alloc);
     for (i, delivery) in deliveries.iter().enumerate() {
-        match performer.perform(alloc, delivery, &mut text) {
+        match performer.perform(delivery, &mut text) {
             Ok(()) => {}
             Err(PerformFault::Label) => return Err(RunFault::Delivery { number: i + 1 }),
             Err(PerformFault::OutOfMemory) => return Err(RunFault::OutOfMemory),

@@ -1,3 +1,6 @@
+pub mod UserTrees
+pub mod UserLemmas
+pub mod KeptRows
 pub mod RowLemmas
 pub mod RowCounts
 pub mod TestedRows

@@ -1,3 +1,4 @@
+pub mod Users
 pub mod Shown
 pub mod Lent
 pub mod Listed

@@ -1,4 +1,4 @@
--- The listeners that the rows show, in which a mount is a number, and the counts of each mount.
+-- The listeners that the rows show, in which a mount is a number, and what is kept of the rows: the counts of each mount and an index.
 use Rattle.std.specs.Prelude.{◌≡◌, ℕ, Bool, false, ◌==◌, List, length, Option, Some, None, filter}
 use Rattle.radio_seats_rows.specs.declared.seat.Seating.{Seating}
 use Rattle.radio_seats_rows.specs.declared.seat.Seating.TheVariants.{Sits, Finished}
@@ -10,6 +10,7 @@ use Rattle.radio_seats_rows.specs.declared.mounts.Mount.{Mount}
 use Rattle.radio_seats_rows.specs.Guests.{seat_of_guest}
 use Rattle.radio_seats_rows.specs.Rows.{last_number, number_of}
 use Rattle.radio_seats_rows.specs.Mounts.{sitting_in, naming_in}
+use Rattle.radio_seats.specs.Users.{UserTree, AreKept}
 
 -- what a row shows, where mounts of these numbers have these names
 abbrev pub named_state : (ℕ → List ℕ) → RowState → Seating
@@ -43,3 +44,8 @@ number_in (Some row) = number_of row.state
 pub record AreCounted (mounts : List Mount) (rows : List ListenerRow) : Type 0 where
   pub sitting : (number : ℕ) → sitting_in mounts number ≡ length (filter (sits_by number) rows)
   pub naming : (number : ℕ) → naming_in mounts number ≡ length (filter (names_by number) rows)
+
+-- the counts of the mounts and the index of users are those of the rows
+pub record FitRows (mounts : List Mount) (users : UserTree) (rows : List ListenerRow) : Type 0 where
+  pub counted : AreCounted mounts rows
+  pub kept : AreKept users rows

@@ -5,7 +5,7 @@ ghost use Rattle.radio_seats_rows.specs.Seats.{with_place};
 
 use crate::Seats;
 use radio_blocks::Place;
-use radio_seats_rows::{KeepsUser, ListenerRow, RowState};
+use radio_seats_rows::{ListenerRow, RowState};
 use radio_tables::RowChange;
 
 /// The place up to which a listener has heard its mount's stream, if it has a seat.
@@ -30,18 +30,12 @@ impl RowChange<ListenerRow> for AdvancesSeat {
     }
 }
 
-impl KeepsUser for AdvancesSeat {
-    ghost use Rattle.radio_seats.specs.Further.{further_same};
-
-    ghost same_user = { λ change row. further_same change.place row };
-}
-
 impl Seats {
     /// Sets the place up to which the listener has heard its mount's stream. Nothing changes if it
     /// has no seat. It takes no memory.
     pub fn advance(&mut self, id: u64, place: Place)
         ensures { self.new ≡ record self.old { seats = with_place self.old.seats id place } }
     {
-        self.rows.change(id, &AdvancesSeat { place });
+        self.rows.change(&id, &AdvancesSeat { place });
     }
 }

@@ -6,7 +6,7 @@ ghost use Rattle.radio_seats_rows.specs.SeatTable.{is_prepared};
 ghost use Rattle.radio_seats_rows.specs.Seats.{others_of, without_listener, count_at, sits_there, sits_at, next_number, AreByNumber};
 
 use crate::Seats;
-use radio_seats_rows::UserAt;
+use crate::users::UserAt;
 use radio_values::MountName;
 
 impl Seats {
@@ -89,10 +89,11 @@ impl Seats {
         let Some(number) = self.mounts.number(mount) else {
             return false;
         };
-        self.rows.has_user(&UserAt {
+        let asked = UserAt {
             number,
             user,
             own: Some(id),
-        })
+        };
+        self.users.has(&self.rows, &asked)
     }
 }

@@ -14,7 +14,7 @@ impl Seats {
     pub fn last_mount(&self, id: u64) -> Option<&MountName>
         ensures { option_copied result ≡ last_mount_of self.now.seats id }
     {
-        let Some(row) = self.rows.get(id) else {
+        let Some(row) = self.rows.get(&id) else {
             return None;
         };
         match self.mounts.get(row.state.last_mount()) {

@@ -3,7 +3,7 @@
 //!
 //! - [`Seats`]: the table. Contracts see it as a board: the names of the mounts that were prepared,
 //!   and the list of its listeners, in the order of their numbers. It has a row of each, which knows
-//!   its mount by a number, and the mounts with their counts.
+//!   its mount by a number, the mounts with their counts, and an index of the rows by user.
 //! - [`LentSeat`], [`ListenerStanding`]: what the table answers of a listener.
 //! - [`Seats::guests_at`]: who sits at a mount, each as a [`LentListener`].
 //! - [`Seats::last_mount`]: where a listener sits, or sat last.
@@ -17,6 +17,7 @@ mod last;
 mod lent;
 mod listed;
 mod seats;
+mod users;
 
 pub use lent::{LentSeat, ListenerStanding};
 pub use listed::LentListener;

@@ -5,7 +5,8 @@ ghost use Rattle.std.specs.Option.{option_map};
 ghost use Rattle.radio_seats.specs.Listed.{lent_guest, guests_at, row_guest};
 
 use crate::Seats;
-use radio_seats_rows::{Guest, ListenerRow, OutOfMemory, RowState, Rows};
+use radio_seats_rows::{Guest, ListenerRow, OutOfMemory, RowState};
+use radio_tables::Table;
 use radio_values::MountName;
 use std::alloc::Global;
 
@@ -36,7 +37,11 @@ impl Seats {
 }
 
 /// Who sits at the mount of this number.
-fn guests_in(alloc: Global, rows: &Rows, number: u64) -> Result<Vec<LentListener<'_>>, OutOfMemory>
+fn guests_in(
+    alloc: Global,
+    rows: &Table<ListenerRow>,
+    number: u64,
+) -> Result<Vec<LentListener<'_>>, OutOfMemory>
     ensures { IfOk result (λ found. map lent_guest found.items ≡ filter_map (row_guest number) rows.now) }
 {
     let mut found = Vec::new(alloc);

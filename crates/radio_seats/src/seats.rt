@@ -15,29 +15,38 @@ ghost use Rattle.radio_seats_rows.specs.Rests.{how_many};
 ghost use Rattle.radio_seats_rows.specs.Rows.{is_row, holds_in, holds_at, state_moment};
 ghost use Rattle.radio_seats.specs.Shown.{number_in, last_in};
 
+use crate::users::{UserAt, UserIndex, user_of};
 use crate::{LentSeat, ListenerStanding};
 use radio_blocks::Place;
 use radio_policy::Rule;
 use radio_seats_rows::{
-    Ends, FinishesAt, GuestMoment, ListenerRow, Mounts, Moves, OutOfMemory, RowState, Rows, Seat,
-    SeatTest, SetSession, UserAt,
+    Ends, FinishesAt, GuestMoment, ListenerRow, Mounts, Moves, OutOfMemory, RowState, Seat,
+    SeatTest, SetSession,
 };
+use radio_tables::Table;
 use radio_values::MountName;
 use std::alloc::Global;
 use std::marker::Model;
 
 /// The listeners, each once, in the order of their numbers, and the mounts that were prepared for
-/// them. A listener can be seated at a prepared mount, and moved to one without memory.
+/// them. A listener can be seated at a prepared mount, and moved to one without memory. An index has
+/// who sent which user, so that a question about a user looks at its rows alone.
 pub struct Seats {
     pub(crate) mounts: Mounts,
-    pub(crate) rows: Rows,
+    pub(crate) rows: Table<ListenerRow>,
+    pub(crate) users: UserIndex,
 }
 
 impl Drop for Seats {
     fn drop(self) {
-        let Seats { mounts, rows } = self;
+        let Seats {
+            mounts,
+            rows,
+            users,
+        } = self;
         drop(mounts);
         drop(rows);
+        drop(users);
     }
 }
 
@@ -45,13 +54,13 @@ impl Model for Seats {
     ghost use Rattle.std.specs.Prelude.{map};
     ghost use Rattle.radio_seats_rows.specs.SeatTable.{SeatTable};
     ghost use Rattle.radio_seats_rows.specs.Mounts.{name_in};
-    ghost use Rattle.radio_seats.specs.Shown.{named, AreCounted};
+    ghost use Rattle.radio_seats.specs.Shown.{named, FitRows};
 
     ghost Value = { SeatTable };
 
     ghost view = { λ s. record { prepared = s.mounts.names; seats = map (named (name_in s.mounts.mounts)) s.rows } };
 
-    ghost invariant = { λ s. AreCounted s.mounts.mounts s.rows };
+    ghost invariant = { λ s. FitRows s.mounts.mounts s.users.seats s.rows };
 }
 
 impl Seats {
@@ -61,7 +70,8 @@ impl Seats {
     {
         Seats {
             mounts: Mounts::new(alloc),
-            rows: Rows::new(alloc),
+            rows: Table::new(alloc),
+            users: UserIndex::new(alloc),
         }
     }
 
@@ -91,7 +101,7 @@ impl Seats {
     pub fn seat(&self, id: u64) -> Option<LentSeat<'_>>
         ensures { option_map lent_seat result ≡ seat_of self.now.seats id }
     {
-        let Some(row) = self.rows.get(id) else {
+        let Some(row) = self.rows.get(&id) else {
             return None;
         };
         match &row.state {
@@ -112,7 +122,7 @@ impl Seats {
     pub fn standing(&self, id: u64) -> Option<ListenerStanding>
         ensures { result ≡ standing_in (listener_of self.now.seats id) }
     {
-        let Some(row) = self.rows.get(id) else {
+        let Some(row) = self.rows.get(&id) else {
             return None;
         };
         Some(match &row.state {
@@ -133,7 +143,7 @@ impl Seats {
         };
         let from = number_of(&self.rows, id);
         let last = last_of(&self.rows, id);
-        self.rows.insert(id, number, seat)?;
+        self.users.insert_row(&mut self.rows, id, number, seat)?;
         // so many fit
         let _ = self.rows.len();
         self.mounts.leave(from);
@@ -169,7 +179,7 @@ impl Seats {
             session,
             place,
         };
-        self.rows.change(id, &moves);
+        self.rows.change(&id, &moves);
         let Some(_) = from else {
             return;
         };
@@ -186,7 +196,7 @@ impl Seats {
         ensures { self.new ≡ record self.old { seats = with_end self.old.seats id rule } }
     {
         let from = number_of(&self.rows, id);
-        self.rows.change(id, &Ends { rule });
+        self.rows.change(&id, &Ends { rule });
         self.mounts.leave(from);
     }
 
@@ -196,7 +206,8 @@ impl Seats {
     {
         let from = number_of(&self.rows, id);
         let last = last_of(&self.rows, id);
-        self.rows.remove(id);
+        let gone = self.rows.remove(&id);
+        self.users.remove(user_of(gone.as_ref()), id, None);
         self.mounts.leave(from);
         self.mounts.give_up(last);
     }
@@ -243,11 +254,12 @@ impl Seats {
         let Some(number) = self.mounts.number(mount) else {
             return false;
         };
-        self.rows.has_user(&UserAt {
+        let asked = UserAt {
             number,
             user,
             own: None,
-        })
+        };
+        self.users.has(&self.rows, &asked)
     }
 
     /// The first of these moments of those who have seats; the last one where nobody has. The time
@@ -284,37 +296,37 @@ impl Seats {
 }
 
 /// The number of the mount where the listener sits.
-fn number_of(rows: &Rows, id: u64) -> Option<u64>
+fn number_of(rows: &Table<ListenerRow>, id: u64) -> Option<u64>
     ensures number { result ≡ number_in (find (is_row id) rows.now) }
     // no listener has two rows
     ensures rising { IsStrictlySortedBy nat_cmp (map (λ (row : RowOf). row.id) rows.now) }
 {
     let _ = rows.len();
-    match rows.get(id) {
+    match rows.get(&id) {
         Some(row) => row.state.mount(),
         None => None,
     }
 }
 
 /// The number of the mount where the listener sits, or sat last.
-fn last_of(rows: &Rows, id: u64) -> Option<u64>
+fn last_of(rows: &Table<ListenerRow>, id: u64) -> Option<u64>
     ensures { result ≡ last_in (find (is_row id) rows.now) }
 {
-    match rows.get(id) {
+    match rows.get(&id) {
         Some(row) => Some(row.state.last_mount()),
         None => None,
     }
 }
 
 /// The first row of one who has a seat of which the test holds.
-fn first_where<'a, T: SeatTest>(rows: &'a Rows, test: &T) -> Option<&'a ListenerRow>
+fn first_where<'a, T: SeatTest>(rows: &'a Table<ListenerRow>, test: &T) -> Option<&'a ListenerRow>
     ensures { option_copied result ≡ find (λ row. holds_in (T.passes test.now) row.state) rows.now }
 {
     rows.iter().find(|row| row.state.passes(test))
 }
 
 /// The first of these moments of those who have seats; the last one where nobody has.
-fn first_in<M: GuestMoment>(rows: &Rows, moment: &M, last: u64) -> u64
+fn first_in<M: GuestMoment>(rows: &Table<ListenerRow>, moment: &M, last: u64) -> u64
     ensures { result ≡ fold (λ first row. min first (state_moment (M.gives moment.now) last row.state)) last rows.now }
 {
     rows.iter().fold(last, |first, row| {
@@ -323,7 +335,7 @@ fn first_in<M: GuestMoment>(rows: &Rows, moment: &M, last: u64) -> u64
 }
 
 /// How many sit at the mount of this number, of whom the test holds.
-fn count_where<T: SeatTest>(rows: &Rows, number: u64, test: &T) -> u64
+fn count_where<T: SeatTest>(rows: &Table<ListenerRow>, number: u64, test: &T) -> u64
     ensures { result ≡ length (filter (λ row. holds_at (T.passes test.now) number row.state) rows.now) }
 {
     rows.iter()

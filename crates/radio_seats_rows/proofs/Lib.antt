@@ -1,8 +1,6 @@
 pub mod Lists
 pub mod MountLemmas
 pub mod MountCounts
-pub mod UserTrees
-pub mod UserLemmas
 pub mod SeatLaws
 pub mod GivenLaws
 pub mod EndLaws

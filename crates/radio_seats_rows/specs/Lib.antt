@@ -5,5 +5,3 @@ pub mod Mounts
 pub mod Rows
 pub mod Rests
 pub mod Sent
-pub mod Users
-pub mod SameUsers

@@ -8,15 +8,6 @@ use radio_blocks::Place;
 use radio_policy::Rule;
 use radio_tables::RowChange;
 
-/// A change of a row after which its listener is of the same user, or has lost its seat.
-pub trait KeepsUser: RowChange<ListenerRow> {
-    ghost use Rattle.radio_seats_rows.specs.declared.row.ListenerRow.{ListenerRow};
-    ghost use Rattle.radio_seats_rows.specs.Users.{IsSameUser};
-
-    // It is.
-    ghost same_user: { (change : Self) (row : ListenerRow) → IsSameUser row (Self.gives change row) };
-}
-
 /// A listener who sits at the mount of this number hears this session from now on.
 #[derive(Drop)]
 pub struct SetSession {
@@ -56,12 +47,6 @@ impl RowChange<ListenerRow> for SetSession {
     }
 }
 
-impl KeepsUser for SetSession {
-    ghost use Rattle.radio_seats_rows.specs.SameUsers.{hears_same};
-
-    ghost same_user = { λ change row. hears_same change.number change.session row };
-}
-
 /// The listener sits at the mount of this number from now on.
 #[derive(Drop)]
 pub struct Moves {
@@ -90,12 +75,6 @@ impl RowChange<ListenerRow> for Moves {
     }
 }
 
-impl KeepsUser for Moves {
-    ghost use Rattle.radio_seats_rows.specs.SameUsers.{shifted_same};
-
-    ghost same_user = { λ change row. shifted_same change.mount change.session change.place row };
-}
-
 /// The listener loses its seat by the rule.
 #[derive(Drop)]
 pub struct Ends {
@@ -120,12 +99,6 @@ impl RowChange<ListenerRow> for Ends {
             };
         }
     }
-}
-
-impl KeepsUser for Ends {
-    ghost use Rattle.radio_seats_rows.specs.SameUsers.{ended_same};
-
-    ghost same_user = { λ change row. ended_same change.rule row };
 }
 
 /// A test of a guest.
@@ -182,10 +155,4 @@ impl<T: SeatTest> RowChange<ListenerRow> for FinishesAt<'_, T> {
             };
         }
     }
-}
-
-impl<T: SeatTest> KeepsUser for FinishesAt<'_, T> {
-    ghost use Rattle.radio_seats_rows.specs.SameUsers.{ended_where_same};
-
-    ghost same_user = { λ change row. ended_where_same (T.passes change.test.now) change.number change.rule row };
 }

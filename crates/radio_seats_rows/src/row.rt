@@ -1,12 +1,16 @@
 //! The rows of the table, in which a mount is a number.
 
-ghost use Rattle.std.specs.Prelude.{◌≡◌};
-ghost use Rattle.radio_seats_rows.specs.Rows.{number_of, last_number, holds_in, holds_at, user_state, state_moment};
+ghost use Rattle.std.specs.Prelude.{◌≡◌, IfOk};
+ghost use Rattle.std.specs.Option.{option_copied};
+ghost use Rattle.radio_seats_rows.specs.Rows.{number_of, last_number, holds_in, holds_at, seated_row, user_state, state_moment};
+ghost use Rattle.radio_seats_rows.specs.Sent.{user_sent};
 
-use crate::{Guest, GuestMoment, KeptUser, SeatTest};
+use crate::{Guest, GuestMoment, KeptUser, OutOfMemory, Seat, SeatTest};
 use radio_blocks::Place;
+use radio_creds::Pair;
 use radio_policy::Rule;
 use radio_tables::Row;
+use std::alloc::Global;
 
 /// A seat, in which the mount is its number.
 #[derive(Drop)]
@@ -123,5 +127,43 @@ impl Row for ListenerRow {
 
     fn key(&self) -> u64 {
         self.id
+    }
+}
+
+impl ListenerRow {
+    /// The row of a listener who sits down, where the mount of its seat has this number.
+    /// `OutOfMemory` if memory was refused.
+    pub fn new(alloc: Global, id: u64, number: u64, seat: Seat) -> Result<ListenerRow, OutOfMemory>
+        ensures { IfOk result (λ row. row ≡ seated_row id number seat) }
+    {
+        let user = kept(alloc, seat.pair.as_ref())?;
+        let guest = Guest {
+            home: seat.home,
+            peer: seat.peer,
+            pair: seat.pair,
+            interval: seat.interval,
+            since: seat.since,
+        };
+        let seat = NumberedSeat {
+            place: seat.place,
+            mount: number,
+            session: seat.session,
+            guest,
+        };
+        Ok(ListenerRow {
+            id,
+            user,
+            state: RowState::Seated(seat),
+        })
+    }
+}
+
+/// The user that was sent, if one was. `OutOfMemory` if memory was refused.
+fn kept(alloc: Global, pair: Option<&Pair>) -> Result<Option<KeptUser>, OutOfMemory>
+    ensures { IfOk result (λ user. user ≡ user_sent (option_copied pair.entry)) }
+{
+    match pair {
+        Some(pair) => Ok(Some(KeptUser::new(alloc, pair.user())?)),
+        None => Ok(None),
     }
 }

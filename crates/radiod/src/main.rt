@@ -29,10 +29,10 @@ use crate::serving::{serve_station, web_of};
 use crate::words::read_words;
 use radio_floor::Tally;
 use radio_headline::play;
+use radio_script::BufferedTally;
 use radio_startup::{
     CommandLine, FileFault, SettingsText, Station, SystemFiles, read_station, read_text, warn,
 };
-use std::io::BufReader;
 use std::process::ExitCode;
 use std::sync::Wait;
 use std::thread::Threads;
@@ -229,11 +229,10 @@ fn play_script(rt: &HostRuntime, path: &str) -> Result<(), Fault>
 fn play_in(rt: &HostRuntime, station: Station) -> Result<(), Fault>
     ensures { IfErr result EndsPlay }
 {
-    let Ok(input) = BufReader::new(rt.alloc(), rt.stdin()) else {
+    let Ok(mut reader) = BufferedTally::new(rt.alloc(), rt.stdin()) else {
         drop(station);
         return Err(Fault::OutOfMemory);
     };
-    let mut reader = Tally::new(input);
     let mut writer = Tally::new(rt.stdout());
     let Station {
         settings,

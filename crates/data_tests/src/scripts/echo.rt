@@ -4,7 +4,6 @@
 ghost use Rattle.std.specs.Prelude.{◌≡◌, ◌++◌, ℕ, List, OnOk};
 
 use radio_script::{Delivery, Input, PerformFault, Performer, push_answer};
-use std::alloc::Global;
 
 /// The one label that it does not know.
 pub const UNKNOWN: u32 = 9;
@@ -17,16 +16,11 @@ impl Performer for Echo {
     // end.
     ghost performs = { λ _ _ _ _. Unit {0} };
 
-    fn perform(
-        &mut self,
-        alloc: Global,
-        delivery: &Delivery,
-        lines: &mut Vec<u8>,
-    ) -> Result<(), PerformFault> {
+    fn perform(&mut self, delivery: &Delivery, lines: &mut Vec<u8>) -> Result<(), PerformFault> {
         match delivery {
             Delivery::To { label, input } => match input {
-                Input::Data(bytes) => answer(alloc, lines, *label, bytes.as_slice(), None),
-                Input::End => answer(alloc, lines, *label, &[], Some("done")),
+                Input::Data(bytes) => answer(lines, *label, bytes.as_slice(), None),
+                Input::End => answer(lines, *label, &[], Some("done")),
                 Input::Room(_) | Input::Title(_) => Ok(()),
             },
             _ => Ok(()),
@@ -36,7 +30,6 @@ impl Performer for Echo {
 
 // At most one line for the bytes, and then at most one for the end.
 fn answer(
-    alloc: Global,
     lines: &mut Vec<u8>,
     label: u32,
     bytes: &[u8],
@@ -47,7 +40,7 @@ fn answer(
     if label == UNKNOWN {
         return Err(PerformFault::Label);
     }
-    match push_answer(alloc, lines, label, bytes, word) {
+    match push_answer(lines, label, bytes, word) {
         Ok(()) => Ok(()),
         Err(_) => Err(PerformFault::OutOfMemory),
     }

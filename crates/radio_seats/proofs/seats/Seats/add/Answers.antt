@@ -17,24 +17,32 @@ gain-requires-clause-room_to_sit c =
     let rows = c.self.inside.rows in
     let from = c.number_of-from.result in
     let his = c.number_of-from.ensures.number in
-    let few : length c.insert.new.self < 18446744073709551616 = omega (arith, c.len.ensures.count, c.len.type_inv) in
-    room_for_one sits_by (sitting_in c.self.inside.mounts.mounts) rows _ from c.self.invariant.sitting (sitting_in c.give_up.new.self.mounts) c.in-Some.number
+    let few : length c.insert_row.new.rows < 18446744073709551616 = omega (arith, c.len.ensures.count, c.len.type_inv) in
+    room_for_one sits_by (sitting_in c.self.inside.mounts.mounts) rows _ from c.self.invariant.counted.sitting (sitting_in c.give_up.new.self.mounts) c.in-Some.number
     (his_counts sits_by number_in held_number rows c.args.id from his)
     (one_comes sits_by number_in held_number rows c.number_of-from.ensures.rising from (seated_row c.args.id c.in-Some.number c.args.seat) c.in-Some.number his refl)
     (λ k. c.give_up.ensures.sitting k ∙ c.leave.ensures.sitting k)
-    18446744073709551616 (subst (λ xs. length xs < 18446744073709551616) c.in_ok-insert.ensures.ok few)
+    18446744073709551616 (subst (λ xs. length xs < 18446744073709551616) c.in_ok-insert_row.ensures.ok few)
 
 pub gain-requires-clause-room_to_name : goal.gain-requires-clause-room_to_name
 gain-requires-clause-room_to_name c =
     let rows = c.self.inside.rows in
     let last = c.last_of-last.result in
-    let few : length c.insert.new.self < 18446744073709551616 = omega (arith, c.len.ensures.count, c.len.type_inv) in
-    room_for_one names_by (naming_in c.self.inside.mounts.mounts) rows _ last c.self.invariant.naming (naming_in c.give_up.new.self.mounts) c.in-Some.number
+    let few : length c.insert_row.new.rows < 18446744073709551616 = omega (arith, c.len.ensures.count, c.len.type_inv) in
+    room_for_one names_by (naming_in c.self.inside.mounts.mounts) rows _ last c.self.invariant.counted.naming (naming_in c.give_up.new.self.mounts) c.in-Some.number
     (his_counts names_by last_in held_last rows c.args.id last c.last_of-last.ensures)
     (one_comes names_by last_in held_last rows c.number_of-from.ensures.rising last (seated_row c.args.id c.in-Some.number c.args.seat) c.in-Some.number
     c.last_of-last.ensures refl)
     (λ k. c.give_up.ensures.naming k ∙ ap (λ n. n - one_at last k) (c.leave.ensures.naming k))
-    18446744073709551616 (subst (λ xs. length xs < 18446744073709551616) c.in_ok-insert.ensures.ok few)
+    18446744073709551616 (subst (λ xs. length xs < 18446744073709551616) c.in_ok-insert_row.ensures.ok few)
+
+-- where the row is refused, the rows are the same
+pub invariant_of-self : goal.invariant_of-self
+invariant_of-self c =
+    record {
+      counted = subst (AreCounted c.self.inside.mounts.mounts) (sym c.in_err-insert_row.ensures.err) c.self.invariant.counted;
+      kept = c.in_err-insert_row.ensures.kept;
+    }
 
 pub invariant_of-self-2 : goal.invariant_of-self-2
 invariant_of-self-2 c =
@@ -48,16 +56,19 @@ invariant_of-self-2 c =
     let later = c.gain.new.self.mounts in
     let number = c.in-Some.number in
     let row = seated_row c.args.id number c.args.seat in
-    subst (AreCounted later) (sym c.in_ok-insert.ensures.ok) (record {
-      sitting = one_more sits_by (sitting_in mounts) rows (placed (λ (a b : ListenerRow). nat_cmp a.id b.id) row rows) from c.self.invariant.sitting (sitting_in left) number
-          (his_counts sits_by number_in held_number rows c.args.id from his)
-          (one_comes sits_by number_in held_number rows rising from row number his refl)
-          (λ k. c.give_up.ensures.sitting k ∙ c.leave.ensures.sitting k) (sitting_in later) c.gain.ensures.sitting;
-      naming = one_more names_by (naming_in mounts) rows (placed (λ (a b : ListenerRow). nat_cmp a.id b.id) row rows) last c.self.invariant.naming (naming_in left) number
-          (his_counts names_by last_in held_last rows c.args.id last c.last_of-last.ensures)
-          (one_comes names_by last_in held_last rows rising last row number c.last_of-last.ensures refl)
-          (λ k. c.give_up.ensures.naming k ∙ ap (λ n. n - one_at last k) (c.leave.ensures.naming k)) (naming_in later) c.gain.ensures.naming;
-    })
+    record {
+      counted = subst (AreCounted later) (sym c.in_ok-insert_row.ensures.ok) (record {
+        sitting = one_more sits_by (sitting_in mounts) rows (placed (λ (a b : ListenerRow). nat_cmp a.id b.id) row rows) from c.self.invariant.counted.sitting (sitting_in left) number
+            (his_counts sits_by number_in held_number rows c.args.id from his)
+            (one_comes sits_by number_in held_number rows rising from row number his refl)
+            (λ k. c.give_up.ensures.sitting k ∙ c.leave.ensures.sitting k) (sitting_in later) c.gain.ensures.sitting;
+        naming = one_more names_by (naming_in mounts) rows (placed (λ (a b : ListenerRow). nat_cmp a.id b.id) row rows) last c.self.invariant.counted.naming (naming_in left) number
+            (his_counts names_by last_in held_last rows c.args.id last c.last_of-last.ensures)
+            (one_comes names_by last_in held_last rows rising last row number c.last_of-last.ensures refl)
+            (λ k. c.give_up.ensures.naming k ∙ ap (λ n. n - one_at last k) (c.leave.ensures.naming k)) (naming_in later) c.gain.ensures.naming;
+      });
+      kept = c.in_ok-insert_row.ensures.kept;
+    }
 
 pub returns-clause-ok : goal.returns-clause-ok
 returns-clause-ok c =
@@ -68,7 +79,7 @@ returns-clause-ok c =
     let later = c.gain.new.self in
     same_table later.names c.args.self.now.prepared _ _
     (c.gain.ensures.prepared ∙ c.give_up.ensures.prepared ∙ c.leave.ensures.prepared ∙ ap (λ (b : SeatTable). b.prepared) c.self.view_is)
-    (ap (map (named (name_in later.mounts))) c.in_ok-insert.ensures.ok
+    (ap (map (named (name_in later.mounts))) c.in_ok-insert_row.ensures.ok
     ∙ seats_with name (name_in later.mounts) c.self.inside.rows (λ k. c.gain.ensures.names k ∙ c.give_up.ensures.names k ∙ c.leave.ensures.names k) c.args.id
     c.in-Some.number c.args.seat called
     ∙ ap (λ (b : SeatTable). with_seat b.seats c.args.id c.args.seat) c.self.view_is)

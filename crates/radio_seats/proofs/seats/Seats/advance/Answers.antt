@@ -8,8 +8,9 @@ use Rattle.radio_seats_rows.specs.SeatTable.{SeatTable}
 use Rattle.radio_seats_rows.specs.Mounts.{name_in}
 use Rattle.radio_seats_rows.specs.Rows.{is_row, number_of, last_number, with_state}
 use Rattle.radio_seats.specs.Further.{heard_to_place}
-use Rattle.radio_seats.specs.Shown.{named, sits_by, names_by, number_in, last_in, AreCounted}
+use Rattle.radio_seats.specs.Shown.{named, sits_by, names_by, number_in, last_in, FitRows}
 use Rattle.radio_seats_rows.specs.Seats.{with_place}
+use Rattle.radio_seats.proofs.KeptRows.{kept_heard}
 use Rattle.radio_seats.proofs.RowCounts.{held_number, held_last, stays_there}
 use Rattle.radio_seats.proofs.RowLemmas.{same_table, seats_heard}
 use Rattle.radio_seats.proofs.seats.Seats.advance.Goals as goal
@@ -31,9 +32,13 @@ invariant_of-self c =
     let mounts = c.self.inside.mounts.mounts in
     let rows = c.self.inside.rows in
     let still = sits_still c.args.place (find (is_row c.args.id) rows) in
-    subst (AreCounted mounts) (sym c.change.ensures) (record {
-      sitting = λ k. c.self.invariant.sitting k ∙ sym (stays_there sits_by number_in held_number rows c.args.id (hearing c.args.place) still.0 k);
-      naming = λ k. c.self.invariant.naming k ∙ sym (stays_there names_by last_in held_last rows c.args.id (hearing c.args.place) still.1 k);
+    let users = c.self.inside.users.seats in
+    subst (FitRows mounts users) (sym c.change.ensures) (record {
+      counted = record {
+        sitting = λ k. c.self.invariant.counted.sitting k ∙ sym (stays_there sits_by number_in held_number rows c.args.id (hearing c.args.place) still.0 k);
+        naming = λ k. c.self.invariant.counted.naming k ∙ sym (stays_there names_by last_in held_last rows c.args.id (hearing c.args.place) still.1 k);
+      };
+      kept = kept_heard users rows c.self.invariant.kept c.args.id c.args.place;
     })
 
 pub returns : goal.returns

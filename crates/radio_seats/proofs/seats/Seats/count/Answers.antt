@@ -21,7 +21,7 @@ returns-in-Some-get-clause-count c =
     let name = name_in c.self.inside.mounts.mounts in
     let rows = c.self.inside.rows in
     let number = c.in-Some.number in
-    ap sitting_of (sym (ap option_copied c.in-Some-get.is) ∙ c.get.ensures) ∙ c.self.invariant.sitting number
+    ap sitting_of (sym (ap option_copied c.in-Some-get.is) ∙ c.get.ensures) ∙ c.self.invariant.counted.sitting number
     ∙ sym (ap (λ (b : SeatTable). count_at b.seats c.args.mount.now) (sym c.self.view_is)
     ∙ counts_there name c.args.mount.now number (λ k. c.number.ensures.only k ∙ ap (λ n. is_number n k) c.in-Some.is) rows)
 

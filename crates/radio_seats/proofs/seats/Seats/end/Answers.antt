@@ -9,8 +9,9 @@ use Rattle.radio_seats_rows.specs.declared.row.RowState.TheVariants.{Seated, End
 use Rattle.radio_seats_rows.specs.SeatTable.{SeatTable}
 use Rattle.radio_seats_rows.specs.Mounts.{name_in, sitting_in}
 use Rattle.radio_seats_rows.specs.Rows.{is_row, ended, number_of, last_number, with_state}
-use Rattle.radio_seats.specs.Shown.{sits_by, names_by, named, number_in, last_in, AreCounted}
+use Rattle.radio_seats.specs.Shown.{sits_by, names_by, named, number_in, last_in, FitRows}
 use Rattle.radio_seats_rows.specs.Seats.{with_end}
+use Rattle.radio_seats.proofs.KeptRows.{kept_ended}
 use Rattle.radio_seats.proofs.RowCounts.{held_number, held_last, goes_from, stays_there, one_less}
 use Rattle.radio_seats.proofs.RowLemmas.{same_table, seats_ended}
 use Rattle.radio_seats.proofs.seats.Seats.end.Goals as goal
@@ -33,12 +34,16 @@ invariant_of-self c =
     let id = c.args.id in
     let none = nowhere c.args.rule (find (is_row id) rows) in
     let from = c.number_of-from.result in
-    subst (AreCounted c.leave.new.self.mounts) (sym c.change.ensures) (record {
-      sitting = one_less sits_by (sitting_in mounts) rows (update_first (is_row id) (ending c.args.rule) rows) from c.self.invariant.sitting (sitting_in c.leave.new.self.mounts)
-          (goes_from sits_by number_in held_number rows id (ending c.args.rule) from c.number_of-from.ensures.number none.0) c.leave.ensures.sitting;
-      naming = λ k.
-          c.leave.ensures.naming k ∙ c.self.invariant.naming k
-          ∙ sym (stays_there names_by last_in held_last rows id (ending c.args.rule) none.1 k);
+    let users = c.self.inside.users.seats in
+    subst (FitRows c.leave.new.self.mounts users) (sym c.change.ensures) (record {
+      counted = record {
+        sitting = one_less sits_by (sitting_in mounts) rows (update_first (is_row id) (ending c.args.rule) rows) from c.self.invariant.counted.sitting (sitting_in c.leave.new.self.mounts)
+            (goes_from sits_by number_in held_number rows id (ending c.args.rule) from c.number_of-from.ensures.number none.0) c.leave.ensures.sitting;
+        naming = λ k.
+            c.leave.ensures.naming k ∙ c.self.invariant.counted.naming k
+            ∙ sym (stays_there names_by last_in held_last rows id (ending c.args.rule) none.1 k);
+      };
+      kept = kept_ended users rows c.self.invariant.kept id c.args.rule;
     })
 
 pub returns : goal.returns

@@ -3,9 +3,10 @@ use Rattle.std.specs.Prelude.{map}
 use Rattle.radio_seats_rows.specs.SeatTable.{SeatTable}
 use Rattle.radio_seats_rows.specs.Guests.{passes_at}
 use Rattle.radio_seats_rows.specs.Mounts.{is_number, name_in}
-use Rattle.radio_seats.specs.Shown.{named, AreCounted}
+use Rattle.radio_seats.specs.Shown.{named, FitRows}
 use Rattle.radio_seats_rows.specs.Seats.{with_ended}
 use Rattle.radio_seats_rows.specs.Rests.{how_many}
+use Rattle.radio_seats.proofs.KeptRows.{kept_ended_where}
 use Rattle.radio_seats.proofs.RowLemmas.{all_end_there, none_end_there, nobody_ends, none_to_end, how_many_there, same_table, shown_same}
 use Rattle.radio_seats.proofs.RowCounts.{counted_ended}
 use Rattle.radio_seats.proofs.seats.Seats.finish_at_if.Goals as goal
@@ -34,9 +35,13 @@ returns-then-count-eq0-clause-seats g c =
 pub invariant_of-self : goal.invariant_of-self
 invariant_of-self g c =
     let p = g.T.SeatTest.passes c.args.test.now in
-    subst (AreCounted c.lose.new.self.mounts) (sym c.change_all.ensures)
-    (counted_ended p c.args.rule c.in-Some.number c.self.inside.mounts.mounts c.lose.new.self.mounts c.self.inside.rows c.count_where-count.result
-    c.self.invariant c.count_where-count.ensures c.lose.ensures.sitting c.lose.ensures.naming)
+    let users = c.self.inside.users.seats in
+    let rows = c.self.inside.rows in
+    subst (FitRows c.lose.new.self.mounts users) (sym c.change_all.ensures) (record {
+      counted = counted_ended p c.args.rule c.in-Some.number c.self.inside.mounts.mounts c.lose.new.self.mounts rows c.count_where-count.result
+          c.self.invariant.counted c.count_where-count.ensures c.lose.ensures.sitting c.lose.ensures.naming;
+      kept = kept_ended_where users rows c.self.invariant.kept p c.in-Some.number c.args.rule;
+    })
 
 pub returns-clause-seats : goal.returns-clause-seats
 returns-clause-seats g c =

@@ -27,7 +27,7 @@ unreachable-requires-in-None g c =
     let found = sym c.first_where.ensures ∙ ap option_copied c.in-Some.is in
     let none = ap sitting_of (sym c.get.ensures ∙ ap option_copied c.in-None.is) in
     let some = some_sit p (name_in c.self.inside.mounts.mounts) rows c.in-Some.row.now c.in-Some-mount.number found (sym c.mount.ensures ∙ c.in-Some-mount.is) in
-    absurd (omega (arith, none, some, c.self.invariant.sitting c.in-Some-mount.number))
+    absurd (omega (arith, none, some, c.self.invariant.counted.sitting c.in-Some-mount.number))
 
 pub returns : goal.returns
 returns g c =

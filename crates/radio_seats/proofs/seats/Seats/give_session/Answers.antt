@@ -2,9 +2,10 @@ use Rattle.std.proofs.Common.{◌≡◌, ap, sym, subst, refl, ◌∙◌}
 use Rattle.std.specs.Prelude.{map}
 use Rattle.radio_seats_rows.specs.SeatTable.{SeatTable}
 use Rattle.radio_seats_rows.specs.Mounts.{is_number, name_in}
-use Rattle.radio_seats.specs.Shown.{named, AreCounted}
+use Rattle.radio_seats.specs.Shown.{named, FitRows}
 use Rattle.radio_seats_rows.specs.Seats.{with_session_at}
 use Rattle.radio_seats.proofs.GivenRows.{counted_hearing, nobody_hears, seats_hearing}
+use Rattle.radio_seats.proofs.KeptRows.{kept_hearing}
 use Rattle.radio_seats.proofs.RowLemmas.{same_table}
 use Rattle.radio_seats.proofs.seats.Seats.give_session.Goals as goal
 
@@ -19,8 +20,13 @@ returns-in_default c =
 
 pub invariant_of-self : goal.invariant_of-self
 invariant_of-self c =
-    subst (AreCounted c.self.inside.mounts.mounts) (sym c.change_all.ensures)
-    (counted_hearing c.self.inside.mounts.mounts c.self.inside.rows c.in-Some.number c.args.session c.self.invariant)
+    let mounts = c.self.inside.mounts.mounts in
+    let users = c.self.inside.users.seats in
+    let rows = c.self.inside.rows in
+    subst (FitRows mounts users) (sym c.change_all.ensures) (record {
+      counted = counted_hearing mounts rows c.in-Some.number c.args.session c.self.invariant.counted;
+      kept = kept_hearing users rows c.self.invariant.kept c.in-Some.number c.args.session;
+    })
 
 pub returns : goal.returns
 returns c =

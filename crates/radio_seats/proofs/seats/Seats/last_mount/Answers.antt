@@ -26,7 +26,7 @@ unreachable-requires c =
     let names = ap (λ n. n == number) (sym c.last_mount.ensures) ∙ same_number number in
     let some : 0 < passing (names_by number) rows = found_counts (names_by number) (is_row c.args.id) rows c.in-Some.row.now
     (sym c.get.ensures ∙ ap option_copied c.in-Some.is) names in
-    absurd (omega (arith, none, some, c.self.invariant.naming number))
+    absurd (omega (arith, none, some, c.self.invariant.counted.naming number))
 
 pub returns : goal.returns
 returns c =

@@ -16,6 +16,6 @@ pub returns-in-Some-get : goal.returns-in-Some-get
 returns-in-Some-get c =
     let name = name_in c.self.inside.mounts.mounts in
     let number = c.in-Some.number in
-    ap naming_of (sym (ap option_copied c.in-Some-get.is) ∙ c.get.ensures) ∙ c.self.invariant.naming number
+    ap naming_of (sym (ap option_copied c.in-Some-get.is) ∙ c.get.ensures) ∙ c.self.invariant.counted.naming number
     ∙ sym (ap (λ (b : SeatTable). named_at b.seats c.args.mount.now) (sym c.self.view_is)
     ∙ names_there name c.args.mount.now number (λ k. c.number.ensures.only k ∙ ap (λ n. is_number n k) c.in-Some.is) c.self.inside.rows)

@@ -1,10 +1,13 @@
 use Rattle.std.proofs.Common.{ap, sym, subst, ◌∙◌, ◌-◌}
 use Rattle.std.specs.Prelude.{filter, map, not}
+use Rattle.std.specs.Option.{option_copied}
 use Rattle.radio_seats_rows.specs.SeatTable.{SeatTable}
 use Rattle.radio_seats_rows.specs.Mounts.{name_in, sitting_in, naming_in, one_at}
 use Rattle.radio_seats_rows.specs.Rows.{is_row}
-use Rattle.radio_seats.specs.Shown.{sits_by, names_by, named, number_in, last_in, AreCounted}
+use Rattle.radio_seats.specs.Shown.{sits_by, names_by, named, number_in, last_in, FitRows}
+use Rattle.radio_seats.specs.Users.{user_in}
 use Rattle.radio_seats_rows.specs.Seats.{without_listener}
+use Rattle.radio_seats.proofs.UserLemmas.{kept_left}
 use Rattle.radio_seats.proofs.RowCounts.{held_number, held_last, one_goes, one_less}
 use Rattle.radio_seats.proofs.RowLemmas.{same_table, seats_without}
 use Rattle.radio_seats.proofs.seats.Seats.remove.Goals as goal
@@ -18,13 +21,19 @@ invariant_of-self c =
     let rising = c.number_of-from.ensures.rising in
     let from = c.number_of-from.result in
     let last = c.last_of-last.result in
-    subst (AreCounted later) (sym c.remove.ensures.removed) (record {
-      sitting = one_less sits_by (sitting_in mounts) rows (filter (λ row. not (is_row id row)) rows) from c.self.invariant.sitting (sitting_in later)
-          (one_goes sits_by number_in held_number rows rising from id c.number_of-from.ensures.number)
-          (λ k. c.give_up.ensures.sitting k ∙ c.leave.ensures.sitting k);
-      naming = one_less names_by (naming_in mounts) rows (filter (λ row. not (is_row id row)) rows) last c.self.invariant.naming (naming_in later)
-          (one_goes names_by last_in held_last rows rising last id c.last_of-last.ensures)
-          (λ k. c.give_up.ensures.naming k ∙ ap (λ n. n - one_at last k) (c.leave.ensures.naming k));
+    let users = c.self.inside.users.seats in
+    let left = c.remove.new.self.seats in
+    subst (FitRows later left) (sym c.remove-gone.ensures.removed) (record {
+      counted = record {
+        sitting = one_less sits_by (sitting_in mounts) rows (filter (λ row. not (is_row id row)) rows) from c.self.invariant.counted.sitting (sitting_in later)
+            (one_goes sits_by number_in held_number rows rising from id c.number_of-from.ensures.number)
+            (λ k. c.give_up.ensures.sitting k ∙ c.leave.ensures.sitting k);
+        naming = one_less names_by (naming_in mounts) rows (filter (λ row. not (is_row id row)) rows) last c.self.invariant.counted.naming (naming_in later)
+            (one_goes names_by last_in held_last rows rising last id c.last_of-last.ensures)
+            (λ k. c.give_up.ensures.naming k ∙ ap (λ n. n - one_at last k) (c.leave.ensures.naming k));
+      };
+      kept = kept_left users rows c.self.invariant.kept id (option_copied c.user_of.result)
+          (c.user_of.ensures ∙ ap user_in (c.as_ref.ensures.value ∙ c.remove-gone.ensures.value)) left c.remove.ensures;
     })
 
 pub returns : goal.returns
@@ -33,6 +42,6 @@ returns c =
     let later = c.give_up.new.self in
     same_table later.names c.args.self.now.prepared _ _
     (c.give_up.ensures.prepared ∙ c.leave.ensures.prepared ∙ ap (λ (b : SeatTable). b.prepared) c.self.view_is)
-    (ap (map (named (name_in later.mounts))) c.remove.ensures.removed
+    (ap (map (named (name_in later.mounts))) c.remove-gone.ensures.removed
     ∙ seats_without (name_in mounts.mounts) (name_in later.mounts) c.self.inside.rows (λ k. c.give_up.ensures.names k ∙ c.leave.ensures.names k) c.args.id
     ∙ ap (λ (b : SeatTable). without_listener b.seats c.args.id) c.self.view_is)

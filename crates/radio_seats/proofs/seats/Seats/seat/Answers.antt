@@ -46,4 +46,4 @@ unreachable-requires c =
     let sits = ap (state_at number) c.in-Seated.is ∙ same_number number in
     let some : 0 < passing (sits_by number) rows = found_counts (sits_by number) (is_row c.args.id) rows c.in-Some.row.now
     (sym c.get.ensures ∙ ap option_copied c.in-Some.is) sits in
-    absurd (omega (arith, none, some, c.self.invariant.sitting number))
+    absurd (omega (arith, none, some, c.self.invariant.counted.sitting number))

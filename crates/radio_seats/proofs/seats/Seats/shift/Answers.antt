@@ -4,8 +4,9 @@ use Rattle.radio_tables.specs.Lists.{update_first}
 use Rattle.radio_seats_rows.specs.SeatTable.{SeatTable}
 use Rattle.radio_seats_rows.specs.Mounts.{is_number, name_in, sitting_in, naming_in, one_at}
 use Rattle.radio_seats_rows.specs.Rows.{is_row}
-use Rattle.radio_seats.specs.Shown.{named, number_in, last_in, sits_by, names_by, AreCounted}
+use Rattle.radio_seats.specs.Shown.{named, number_in, last_in, sits_by, names_by, FitRows}
 use Rattle.radio_seats_rows.specs.Seats.{with_move}
+use Rattle.radio_seats.proofs.KeptRows.{kept_shifted}
 use Rattle.radio_seats.proofs.RowCounts.{held_number, held_last, his_counts, stays_there, move, none_moves, his_name, seat_goes, name_goes, one_more, room_for_one}
 use Rattle.radio_seats.proofs.RowLemmas.{is_called, same_table, seats_moved}
 use Rattle.radio_seats.proofs.seats.Seats.shift.Goals as goal
@@ -17,9 +18,13 @@ invariant_of-self c =
     let id = c.args.id in
     let moves = move c.in-Some.number c.args.session c.args.place in
     let still = none_moves c.in-Some.number c.args.session c.args.place (find (is_row id) rows) (sym c.number_of-from.ensures.number ∙ c.in_default-from.is) in
-    subst (AreCounted mounts) (sym c.change.ensures) (record {
-      sitting = λ k. c.self.invariant.sitting k ∙ sym (stays_there sits_by number_in held_number rows id moves still.0 k);
-      naming = λ k. c.self.invariant.naming k ∙ sym (stays_there names_by last_in held_last rows id moves still.1 k);
+    let users = c.self.inside.users.seats in
+    subst (FitRows mounts users) (sym c.change.ensures) (record {
+      counted = record {
+        sitting = λ k. c.self.invariant.counted.sitting k ∙ sym (stays_there sits_by number_in held_number rows id moves still.0 k);
+        naming = λ k. c.self.invariant.counted.naming k ∙ sym (stays_there names_by last_in held_last rows id moves still.1 k);
+      };
+      kept = kept_shifted users rows c.self.invariant.kept id c.in-Some.number c.args.session c.args.place;
     })
 
 pub returns-in_default-from : goal.returns-in_default-from
@@ -40,7 +45,7 @@ gain-requires-clause-room_to_sit c =
     let from = c.number_of-from.result in
     let his = c.number_of-from.ensures.number in
     let few : length c.change.new.self < 18446744073709551616 = omega (arith, c.len.ensures.count, c.len.type_inv) in
-    room_for_one sits_by (sitting_in c.self.inside.mounts.mounts) rows _ from c.self.invariant.sitting (sitting_in c.give_up.new.self.mounts) number
+    room_for_one sits_by (sitting_in c.self.inside.mounts.mounts) rows _ from c.self.invariant.counted.sitting (sitting_in c.give_up.new.self.mounts) number
     (his_counts sits_by number_in held_number rows c.args.id from his)
     (seat_goes number c.args.session c.args.place rows c.args.id from c.in-Some-from.field-0 his c.in-Some-from.is)
     (λ k. c.give_up.ensures.sitting k ∙ c.leave.ensures.sitting k)
@@ -53,7 +58,7 @@ gain-requires-clause-room_to_name c =
     let from = c.number_of-from.result in
     let his = c.number_of-from.ensures.number in
     let few : length c.change.new.self < 18446744073709551616 = omega (arith, c.len.ensures.count, c.len.type_inv) in
-    room_for_one names_by (naming_in c.self.inside.mounts.mounts) rows _ from c.self.invariant.naming (naming_in c.give_up.new.self.mounts) number
+    room_for_one names_by (naming_in c.self.inside.mounts.mounts) rows _ from c.self.invariant.counted.naming (naming_in c.give_up.new.self.mounts) number
     (his_name number c.args.session c.args.place rows c.args.id from c.in-Some-from.field-0 his c.in-Some-from.is)
     (name_goes number c.args.session c.args.place rows c.args.id from c.in-Some-from.field-0 his c.in-Some-from.is)
     (λ k. c.give_up.ensures.naming k ∙ ap (λ n. n - one_at from k) (c.leave.ensures.naming k))
@@ -71,14 +76,18 @@ invariant_of-self-2 c =
     let left = c.give_up.new.self.mounts in
     let later = c.gain.new.self.mounts in
     let moved = update_first (is_row id) (move number c.args.session c.args.place) rows in
-    subst (AreCounted later) (sym c.change.ensures) (record {
-      sitting = one_more sits_by (sitting_in mounts) rows moved from c.self.invariant.sitting (sitting_in left) number
-          (his_counts sits_by number_in held_number rows id from his) (seat_goes number c.args.session c.args.place rows id from old his c.in-Some-from.is)
-          (λ k. c.give_up.ensures.sitting k ∙ c.leave.ensures.sitting k) (sitting_in later) c.gain.ensures.sitting;
-      naming = one_more names_by (naming_in mounts) rows moved from c.self.invariant.naming (naming_in left) number
-          (his_name number c.args.session c.args.place rows id from old his c.in-Some-from.is)
-          (name_goes number c.args.session c.args.place rows id from old his c.in-Some-from.is)
-          (λ k. c.give_up.ensures.naming k ∙ ap (λ n. n - one_at from k) (c.leave.ensures.naming k)) (naming_in later) c.gain.ensures.naming;
+    let users = c.self.inside.users.seats in
+    subst (FitRows later users) (sym c.change.ensures) (record {
+      counted = record {
+        sitting = one_more sits_by (sitting_in mounts) rows moved from c.self.invariant.counted.sitting (sitting_in left) number
+            (his_counts sits_by number_in held_number rows id from his) (seat_goes number c.args.session c.args.place rows id from old his c.in-Some-from.is)
+            (λ k. c.give_up.ensures.sitting k ∙ c.leave.ensures.sitting k) (sitting_in later) c.gain.ensures.sitting;
+        naming = one_more names_by (naming_in mounts) rows moved from c.self.invariant.counted.naming (naming_in left) number
+            (his_name number c.args.session c.args.place rows id from old his c.in-Some-from.is)
+            (name_goes number c.args.session c.args.place rows id from old his c.in-Some-from.is)
+            (λ k. c.give_up.ensures.naming k ∙ ap (λ n. n - one_at from k) (c.leave.ensures.naming k)) (naming_in later) c.gain.ensures.naming;
+      };
+      kept = kept_shifted users rows c.self.invariant.kept id number c.args.session c.args.place;
     })
 
 pub returns : goal.returns

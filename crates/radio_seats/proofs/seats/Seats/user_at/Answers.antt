@@ -14,7 +14,7 @@ returns-in_default c =
 pub returns : goal.returns
 returns c =
     let name = name_in c.self.inside.mounts.mounts in
-    c.has_user.ensures
+    c.has.ensures
     ∙ sym (ap (λ (b : SeatTable). sits_there b.seats c.args.mount.now c.args.user.now) (sym c.self.view_is)
     ∙ user_there name c.args.mount.now c.in-Some.number (λ k. c.number.ensures.only k ∙ ap (λ n. is_number n k) c.in-Some.is) c.args.user.now
     c.self.inside.rows)

@@ -13,7 +13,7 @@ returns-in_default c =
 
 pub returns : goal.returns
 returns c =
-    c.has_user.ensures
+    c.has.ensures
     ∙ sym (ap (λ (b : SeatTable). sits_there (without_listener b.seats c.args.id) c.args.mount.now c.args.user.now) (sym c.self.view_is)
     ∙ other_user_there (name_in c.self.inside.mounts.mounts) c.args.mount.now c.args.user.now c.args.id c.in-Some.number
     (λ k. c.number.ensures.only k ∙ ap (λ n. is_number n k) c.in-Some.is) c.self.inside.rows)

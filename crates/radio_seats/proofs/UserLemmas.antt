@@ -25,13 +25,18 @@ use Rattle.radio_seats_rows.specs.declared.row.RowState.TheVariants.{Seated, End
 use Rattle.radio_seats_rows.specs.Rows.{is_row, user_state}
 use Rattle.radio_seats_rows.specs.Seats.{has_user}
 use Rattle.radio_seats_rows.specs.Sent.{user_sent, is_user}
-use Rattle.radio_seats_rows.specs.Users.{UserTree, entry_of, has_number, numbers_in, is_kept, user_in, IsUserOf, HasItsUser, IsSameUser, AreKept, is_own, is_other, is_other_in}
+use Rattle.radio_seats.specs.Users.{UserTree, entry_of, has_number, numbers_in, is_kept, user_in, IsUserOf, HasItsUser, AreKept, is_own, is_other, is_other_in}
 use Rattle.radio_seats_rows.proofs.Lists.{same_number}
-use Rattle.radio_seats_rows.proofs.UserTrees.{is_same}
+use Rattle.radio_seats.proofs.UserTrees.{is_same}
 
 and_right : (b c : Bool) → (b && c) ≡ true → c ≡ true
 and_right true c e = e
 and_right false c e = cc
+
+-- the row's listener is of the same user later, or has lost its seat
+pub record IsSameUser (row later : ListenerRow) : Type 0 where
+  pub user : later.user ≡ row.user
+  pub own : HasItsUser row → HasItsUser later
 
 -- a row that is changed so that its listener's user stays
 module _ (f : ListenerRow → ListenerRow) (same_id : (row : ListenerRow) → (f row).id ≡ row.id) (same : (row : ListenerRow) → IsSameUser row (f row)) where
@@ -76,6 +81,11 @@ module _ (f : ListenerRow → ListenerRow) (same_id : (row : ListenerRow) → (f
       own = Each_mapped HasItsUser HasItsUser f (λ row is. (same row).own is) rows are.own;
       kept = λ user k. are.kept user k ∙ ap (is_user user) (sym (user_mapped k rows));
     }
+
+-- an index that keeps the same
+pub kept_still : (seats later : UserTree) (rows : List ListenerRow) → AreKept seats rows
+    → ((user : List ℕ) (k : ℕ) → is_kept later user k ≡ is_kept seats user k) → AreKept later rows
+kept_still seats later rows are same = record { own = are.own; kept = λ user k. same user k ∙ are.kept user k }
 
 module _ (seats : UserTree) (rows : List ListenerRow) (are : AreKept seats rows) (id : ℕ) (before : Option (List ℕ))
     (is : before ≡ user_in (find (is_row id) rows)) where

@@ -2,9 +2,9 @@ use Rattle.std.proofs.Common.{ℕ, List, Some, ◌||◌, ◌==◌, ap, ◌∙◌
 use Rattle.std.specs.BTreeMap.{is_at}
 use Rattle.std.specs.List.{list_any}
 use Rattle.std.specs.Ordering.{nat_cmp}
-use Rattle.radio_seats_rows.specs.Users.{has_number}
-use Rattle.radio_seats_rows.proofs.UserTrees.{kept_changed, kept_same, or_stays, number_more}
-use Rattle.radio_seats_rows.proofs.users.UserIndex.keep.Goals as goal
+use Rattle.radio_seats.specs.Users.{has_number}
+use Rattle.radio_seats.proofs.UserTrees.{kept_changed, kept_same, or_stays, number_more}
+use Rattle.radio_seats.proofs.users.UserIndex.keep.Goals as goal
 
 pub returns-in-Ok-clause-ok : goal.returns-in-Ok-clause-ok
 returns-in-Ok-clause-ok c =

@@ -1,8 +1,8 @@
 use Rattle.std.proofs.Common.{◌≡◌, Some, None, ◌||◌, ◌&&◌, ◌==◌, sym, ap, ◌∙◌}
 use Rattle.std.specs.Str.{bytes_eq}
-use Rattle.radio_seats_rows.specs.Users.{has_number, entry_of, is_kept}
-use Rattle.radio_seats_rows.proofs.UserTrees.{kept_changed, or_stays}
-use Rattle.radio_seats_rows.proofs.users.UserIndex.keep_new.Goals as goal
+use Rattle.radio_seats.specs.Users.{has_number, entry_of, is_kept}
+use Rattle.radio_seats.proofs.UserTrees.{kept_changed, or_stays}
+use Rattle.radio_seats.proofs.users.UserIndex.keep_new.Goals as goal
 
 pub returns-clause-ok : goal.returns-clause-ok
 returns-clause-ok c = λ other k.

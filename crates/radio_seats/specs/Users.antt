@@ -50,11 +50,6 @@ IsUserOf user (Ended rule mount) = Unit {0}
 abbrev pub HasItsUser : ListenerRow → Type 0
 HasItsUser row = IsUserOf row.user row.state
 
--- the row's listener is of the same user later, or has lost its seat
-pub record IsSameUser (row later : ListenerRow) : Type 0 where
-  pub user : later.user ≡ row.user
-  pub own : HasItsUser row → HasItsUser later
-
 -- the index keeps under each user the numbers of the rows that have it, and no other
 pub record AreKept (seats : UserTree) (rows : List ListenerRow) : Type 0 where
   pub own : Each HasItsUser rows

@@ -15,7 +15,7 @@ use Rattle.std.specs.declared.cmp.Ordering.{Ordering}
 use Rattle.std.proofs.lemmas.Bool.Decides.{nat_tests}
 use Rattle.std.proofs.lemmas.Map.Text.{is_eq-slice_cmp}
 use Rattle.std.proofs.lemmas.Slice.Eq.{bytes_eq-Decides}
-use Rattle.radio_seats_rows.specs.Users.{UserTree, by_bytes, entry_of, has_number, is_kept}
+use Rattle.radio_seats.specs.Users.{UserTree, by_bytes, entry_of, has_number, is_kept}
 
 -- the order of the keys
 abbrev pub by_key : Vec ℕ → Vec ℕ → Ordering

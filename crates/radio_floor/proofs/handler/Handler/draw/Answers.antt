@@ -1,0 +1,20 @@
+use Rattle.std.proofs.Common.{◌≡◌, [], ◌∷◌, List, ◌++◌, ℕ, ap, subst, ◌∙◌}
+use Rattle.radio_events.specs.declared.event.Event.TheVariants.{Draw}
+use Rattle.radio_parts_station.specs.World.{World}
+use Rattle.radio_floor.specs.declared.handler.DeliveryAnswer.{DeliveryAnswer}
+use Rattle.radio_floor.specs.declared.labelled.Connection.TheVariants.{Client}
+use Rattle.radio_floor.specs.ScriptState.{exchanges}
+use Rattle.radio_floor.specs.ScriptServer.{AnswersAs}
+use Rattle.radio_floor.proofs.AnsweredLemmas.{answers_exchanged}
+use Rattle.radio_floor.proofs.handler.Handler.draw.Goals as goal
+
+pub returns : goal.returns
+returns c =
+    let e = c.in_ok-state.ensures in
+    let before = c.args.connection.now in
+    let events = Draw before.id c.args.room ∷ [] in
+    let answered : DeliveryAnswer = record { bytes = c.exchange_draw.new.out; state = c.in_ok-state.state } in
+    subst (λ (core : World). AnswersAs core c.exchange_draw.new.core answered (Client c.exchange_draw.new.session)
+    (λ state label done. exchanges state label before events ≡ done)) c.empty_answer-bytes.ensures.core
+    (answers_exchanged c.empty_answer-bytes.new.self.core c.exchange_draw.new.core before c.exchange_draw.new.session events answered e.0
+    c.cores_exchange_as_their_states.ensures e.1 (e.2 ∙ ap (λ (xs : List ℕ). xs ++ e.0.bytes) c.empty_answer-bytes.ensures.bytes) e.3 e.4)
