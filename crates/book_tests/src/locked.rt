@@ -155,5 +155,6 @@ fn locks_of_two_mounts(rt: HostRuntime) {
     let alloc = rt.alloc();
     assert!(rt; matches!(is_settled(&rt, alloc, Play::TwoCallers), Ok(true)));
     assert!(rt; matches!(is_settled(&rt, alloc, Play::Moved), Ok(true)));
+    assert!(rt; matches!(is_settled(&rt, alloc, Play::MovedTogether), Ok(true)));
     assert!(rt; matches!(is_settled(&rt, alloc, Play::Scattered), Ok(true)));
 }

@@ -34,6 +34,8 @@ pub enum Play {
     /// A listener moves from one mount to the other. A block that is too long for the queue finishes it there, right before a
     /// `Clock` event.
     Moved,
+    /// Three listeners move together from one mount to the other and back, and draw at each. Then one comes to the other.
+    MovedTogether,
     /// Calls as dice have them, at four mounts.
     Scattered,
 }
@@ -42,7 +44,7 @@ impl Play {
     /// The settings, and how many bytes of a stream are kept by them.
     pub fn settings(self) -> (&'static str, u64) {
         match self {
-            Play::TwoCallers => ("", 524_288),
+            Play::TwoCallers | Play::MovedTogether => ("", 524_288),
             Play::Moved => (SHORT_QUEUE, 10),
             Play::Scattered => (RING, 12),
         }
@@ -53,6 +55,7 @@ impl Play {
         match self {
             Play::TwoCallers => 2 * CALLS,
             Play::Moved => 22,
+            Play::MovedTogether => 38,
             Play::Scattered => SCATTERED as usize,
         }
     }
@@ -62,6 +65,7 @@ impl Play {
         match self {
             Play::TwoCallers => own == 180,
             Play::Moved => own == 9,
+            Play::MovedTogether => own == 18,
             Play::Scattered => own > 300,
         }
     }
@@ -128,8 +132,11 @@ impl<H: Origin> Callee for Books<'_, H> {
     }
 }
 
-/// Calls one after another. Whether each was replied to.
-fn call_each<C: Callee>(callee: &mut C, events: Vec<Event>) -> bool {
+/// Calls one after another, if there was memory for the events. Whether each was replied to.
+fn calls_each<C: Callee>(callee: &mut C, events: Result<Vec<Event>, OutOfMemory>) -> bool {
+    let Ok(events) = events else {
+        return false;
+    };
     let mut all = true;
     'events: for event in events {
         all = callee.call(event).is_some() && all;
@@ -164,14 +171,51 @@ fn moved_events(alloc: Global) -> Result<Vec<Event>, OutOfMemory> {
     Ok(events)
 }
 
+/// Two sources, three listeners and an admin arrive. The listeners hear `/a`, are moved to `/b` and back, and another one comes to
+/// `/b`. All draw at each place.
+fn moved_together_events(alloc: Global) -> Result<Vec<Event>, OutOfMemory> {
+    let mut events = Vec::new(alloc);
+    'arrivals: for _ in 0..7 {
+        events.push(arrival())?;
+    }
+    events.push(source_event(alloc, 1, "/a")?)?;
+    events.push(source_event(alloc, 2, "/b")?)?;
+    'listeners: for id in 3..6 {
+        events.push(listen_event(alloc, id, "/a")?)?;
+    }
+    events.push(push_event(alloc, 1, b"abcd")?)?;
+    push_draws(&mut events)?;
+    events.push(command_event(alloc, 6, moving("/a", "/b"))?)?;
+    events.push(push_event(alloc, 1, b"efgh")?)?;
+    events.push(push_event(alloc, 2, b"uvw")?)?;
+    push_draws(&mut events)?;
+    events.push(command_event(alloc, 6, moving("/b", "/a"))?)?;
+    events.push(push_event(alloc, 1, b"ijkl")?)?;
+    push_draws(&mut events)?;
+    events.push(listen_event(alloc, 7, "/b")?)?;
+    events.push(push_event(alloc, 2, b"xyz")?)?;
+    events.push(draw(7))?;
+    push_draws(&mut events)?;
+    'leavers: for id in 1..6 {
+        events.push(Event::Leave { id })?;
+    }
+    Ok(events)
+}
+
+/// Adds a draw of each of the three listeners.
+fn push_draws(events: &mut Vec<Event>) -> Result<(), OutOfMemory> {
+    'listeners: for id in 3..6 {
+        events.push(draw(id))?;
+    }
+    Ok(())
+}
+
 /// Makes the calls through this caller. Whether each was replied to.
 pub fn plays<C: Callee>(alloc: Global, callee: &mut C, play: Play) -> bool {
     match play {
         Play::TwoCallers => serve(alloc, callee, "/a") && serve(alloc, callee, "/b"),
-        Play::Moved => match moved_events(alloc) {
-            Ok(events) => call_each(callee, events),
-            Err(_) => false,
-        },
+        Play::Moved => calls_each(callee, moved_events(alloc)),
+        Play::MovedTogether => calls_each(callee, moved_together_events(alloc)),
         Play::Scattered => scatter(alloc, callee, 2, SCATTERED),
     }
 }

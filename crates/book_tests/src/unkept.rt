@@ -4,6 +4,7 @@ ghost use Rattle.std.specs.Prelude.{◌≡◌, ◌^◌};
 ghost use Rattle.radio_access.specs.Lists.{no_lists};
 ghost use Rattle.radio_parts_station.specs.World.{opening};
 
+use crate::mount_books::{Play, plays};
 use radio_access::Lists;
 use radio_book::{Origin, PASSES, Pass, Receipt, Unkept};
 use radio_core::Core;
@@ -16,7 +17,7 @@ use std::alloc::Global;
 use std::marker::Brand;
 use std::sync::Wait;
 use std::sync::ledger::Blank;
-use test_calls::{CALLS, Callee, core, number_given, serve, settings, step_copy};
+use test_calls::{Callee, core, number_given, settings, step_copy};
 
 /// A hall that stores nothing, and a core that is called alike.
 #[derive(Drop)]
@@ -90,35 +91,37 @@ impl<'a, R: Wait, H: Origin> Callee for Beside<'a, R, H> {
     }
 }
 
-/// So many of the 100 calls are answered alike.
-fn count_alike<H: Origin, R: Wait>(
+/// Whether all calls are answered alike.
+fn are_alike_by<H: Origin, R: Wait>(
     rt: &R,
     alloc: Global,
     core: &mut Core,
     settings: Settings,
     blank: Blank,
+    play: Play,
     as_worker: bool,
-) -> usize
+) -> bool
     requires opening { H.opening ≡ opening settings no_lists }
     requires ledger { (blank.name ≡ H.name) × (blank.parts ≡ H.parts) × (blank.parts ≡ 2 ^ 32) }
 {
     let Ok(hall) = Hall::<Unkept, H>::new(alloc, settings, Lists::new(alloc), blank) else {
-        return 0;
+        return false;
     };
     match hall.pass(rt) {
-        Some(mut pass) => count_through(rt, alloc, core, &hall, &mut pass, as_worker),
-        None => 0,
+        Some(mut pass) => are_alike_through(rt, alloc, core, &hall, &mut pass, play, as_worker),
+        None => false,
     }
 }
 
-fn count_through<H: Origin, R: Wait>(
+fn are_alike_through<H: Origin, R: Wait>(
     rt: &R,
     alloc: Global,
     core: &mut Core,
     hall: &Hall<Unkept, H>,
     pass: &mut Pass<Unkept, H>,
+    play: Play,
     as_worker: bool,
-) -> usize {
+) -> bool {
     let mut beside = Beside {
         rt,
         hall,
@@ -127,38 +130,47 @@ fn count_through<H: Origin, R: Wait>(
         as_worker,
         alike: 0,
     };
-    serve(alloc, &mut beside, "/a");
-    beside.alike
+    plays(alloc, &mut beside, play) && beside.alike == play.calls()
 }
 
 fn alike_beside<R: Wait>(
     rt: &R,
     alloc: Global,
     core: &mut Core,
+    play: Play,
     as_worker: bool,
-) -> Result<usize, SettingsFault> {
-    let settings = settings(alloc, "")?;
+) -> Result<bool, SettingsFault> {
+    let (more, _) = play.settings();
+    let settings = settings(alloc, more)?;
     let blank = Blank::new(PASSES);
-    Ok(count_alike::<Brand, R>(rt, alloc, core, settings, blank, as_worker))
+    Ok(are_alike_by::<Brand, R>(rt, alloc, core, settings, blank, play, as_worker))
 }
 
-fn alike(rt: &impl Wait, alloc: Global, as_worker: bool) -> Result<usize, SettingsFault> {
-    let mut core = core(alloc, "")?;
-    let alike = alike_beside(rt, alloc, &mut core, as_worker);
+fn alike(
+    rt: &impl Wait,
+    alloc: Global,
+    play: Play,
+    as_worker: bool,
+) -> Result<bool, SettingsFault> {
+    let (more, _) = play.settings();
+    let mut core = core(alloc, more)?;
+    let alike = alike_beside(rt, alloc, &mut core, play, as_worker);
     drop(core);
     alike
 }
 
-/// Whether all 100 calls are answered alike.
-fn are_alike(rt: &impl Wait, alloc: Global, as_worker: bool) -> bool {
-    match alike(rt, alloc, as_worker) {
-        Ok(count) => count == CALLS,
-        Err(_) => false,
-    }
+/// Whether all calls are answered alike, with receipts and as workers call.
+fn are_alike(rt: &impl Wait, alloc: Global, play: Play) -> bool {
+    matches!(alike(rt, alloc, play, false), Ok(true))
+        && matches!(alike(rt, alloc, play, true), Ok(true))
 }
 
 // rule: Legal history; Reserved ends
 #[test]
 fn the_same_calls_unkept(rt: HostRuntime) {
-    assert!(rt; are_alike(&rt, rt.alloc(), false) && are_alike(&rt, rt.alloc(), true));
+    let alloc = rt.alloc();
+    assert!(rt; are_alike(&rt, alloc, Play::TwoCallers));
+    assert!(rt; are_alike(&rt, alloc, Play::Moved));
+    assert!(rt; are_alike(&rt, alloc, Play::MovedTogether));
+    assert!(rt; are_alike(&rt, alloc, Play::Scattered));
 }

@@ -9,8 +9,8 @@ use crate::{Attachment, AttachmentTest, BoxedAttachment, PlaceVisit};
 use std::marker::Model;
 
 /// The attachments of a mount, each number once. Contracts see their list, in the order of their
-/// numbers. A call that looks for a number takes a time that grows as the logarithm of how many there
-/// are.
+/// numbers. A call that looks for a number goes down one path of the tree. No clause bounds how long
+/// that is: about twice the logarithm of how many there are, if nobody chose the numbers for it.
 #[derive(Drop)]
 pub struct AttachmentTree {
     root: Branch,

@@ -1,17 +1,12 @@
 -- When a clock ends nothing in mounts' parts.
 use Rattle.std.proofs.Common.{◌≡◌, ℕ, ◌+◌, ◌*◌, ◌<◌, ◌≤◌, ◌==◌, ◌||◌, min, Bool, true, false, List, [], ◌∷◌, Option, None, Some, refl, ap, sym, ◌∙◌, arith}
-use Rattle.std.specs.Prelude.{if◌then◌else◌, find, is_some}
-use Rattle.std.specs.List.{list_any}
-use Rattle.std.specs.Option.{option_map_or}
+use Rattle.radio_book.proofs.Words.{if◌then◌else◌, find, is_some, list_any, option_map_or, part_due, MountPart, MountSetting}
 use Rattle.std.specs.Str.{bytes_eq}
-use Rattle.radio_parts_changes.specs.Lent.{part_due}
-use Rattle.radio_parts_mount.specs.declared.part.MountPart.{MountPart}
 use Rattle.radio_parts_mount.specs.Due.{last_moment, due_at, seat_due, session_due}
 use Rattle.radio_parts_mount.specs.Sessions.{Session}
 use Rattle.radio_seats_rows.specs.declared.seat.Seat.{Seat}
 use Rattle.radio_settings_values.specs.Options.{options_for}
 use Rattle.radio_settings_values.specs.declared.settings.MountOptions.{MountOptions}
-use Rattle.radio_settings_values.specs.declared.settings.MountSetting.{MountSetting}
 use Rattle.radio_settings_values.specs.declared.settings.Settings.{Settings}
 use Rattle.radio_book.specs.Clocks.{last_block_in}
 

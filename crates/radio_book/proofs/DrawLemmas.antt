@@ -1,21 +1,12 @@
 -- The reply of a book's part to a draw: read `handed_here` first.
 use Rattle.std.proofs.Common.{◌≡◌, ℕ, Option, None, Some, Result, Ok, Err, IfOk, OnOk, refl, ap, sym, subst, ◌∙◌}
 use Rattle.std.proofs.lemmas.Option.{none-some, same_Some}
-use Rattle.std.specs.Prelude.{find}
-use Rattle.std.specs.Option.{option_map, option_map_or}
-use Rattle.std.specs.declared.alloc.AllocError.{AllocError}
+use Rattle.radio_book.proofs.Words.{find, option_map, option_map_or, AllocError, Draw, Reply, MountPart, PartAnswer, Replied, Elsewhere, answered_here, with_mount_part, BookOfMount, CanOwn, IsReplyHere}
 use Rattle.radio_attachments.specs.declared.attachment.Attachment.{Attachment}
 use Rattle.radio_attachments.specs.Rows.{is_attached}
-use Rattle.radio_events.specs.declared.event.Event.TheVariants.{Draw}
-use Rattle.radio_events.specs.declared.reply.Reply.{Reply}
 use Rattle.radio_parts_mount.specs.Steps.{heard_on, part_hands, part_heard, portion_at, portion_reply, KeepsFor}
 use Rattle.radio_parts_mount.specs.declared.drawing.Portion.{Portion}
-use Rattle.radio_parts_mount.specs.declared.part.MountPart.{MountPart}
-use Rattle.radio_parts_mount.specs.declared.step.PartAnswer.{PartAnswer}
-use Rattle.radio_parts_mount.specs.declared.step.PartAnswer.TheVariants.{Replied, Elsewhere}
 use Rattle.radio_parts_mount.proofs.PartLemmas.{none_changes}
-use Rattle.radio_chronicle.specs.OwnSteps.{answered_here}
-use Rattle.radio_book.specs.MountBooks.{with_mount_part, BookOfMount, CanOwn, IsReplyHere}
 
 module _ (book : BookOfMount) (p after : MountPart) (id room : ℕ) where
   -- the book with this part

@@ -1,27 +1,16 @@
 -- What all mounts have in common follows from the entries of the control's list.
 use Rattle.std.proofs.Common.{◌≡◌, ℕ, Bool, true, false, Option, None, Some, inl, inr, List, [], ◌∷◌, ◌++◌, Result, Ok, Err, IfOk, OnErr, refl, ap, sym, subst, ◌∙◌}
-use Rattle.std.specs.Prelude.{MatchOption}
+use Rattle.radio_book.proofs.Words.{MatchOption, append-nil, AllocError, IsLentTo, ControlLine, Cut, Made, entry, Event, Reply, World, MountPart, entries_in, AreWantedOver, AreWantedThere, CanBe, HasNoPass}
+use Rattle.radio_book.proofs.Words.{IsControlLent, IsControlReply, IsMadeByEntries, IsOpening, WasThere, AreBack, AreLent, ControlState, IsBack, IsControlAsBefore, IsControlStep, IsLentOrStays, IsRefused, with_moment}
+use Rattle.radio_book.proofs.Words.{with_mount_part, AreCuts, BookOfMount}
 use Rattle.std.proofs.Math.Logic.{∥∥₁_map}
-use Rattle.std.proofs.lemmas.List.{append-nil}
-use Rattle.std.specs.declared.alloc.AllocError.{AllocError}
-use Rattle.radio_parts_changes.specs.Lent.{IsLentTo}
-use Rattle.radio_chronicle.specs.declared.line.ControlLine.{ControlLine}
-use Rattle.radio_chronicle.specs.declared.line.ControlLine.TheVariants.{Cut, Made}
 use Rattle.radio_parts.specs.Common.{Common, common_after, common_by, common_of}
-use Rattle.radio_events.specs.Events.{entry}
 use Rattle.radio_events.specs.declared.entry.Entry.{Entry}
-use Rattle.radio_events.specs.declared.event.Event.{Event}
-use Rattle.radio_events.specs.declared.reply.Reply.{Reply}
 use Rattle.radio_parts_station.specs.StationState.{StationState}
-use Rattle.radio_parts_station.specs.World.{World}
 use Rattle.radio_seats_rows.specs.Seats.{last_mount_of}
-use Rattle.radio_parts_mount.specs.declared.part.MountPart.{MountPart}
 use Rattle.radio_parts.specs.Lending.{IsTakenOut}
 use Rattle.radio_parts_facts.specs.Wanted.{wanted}
-use Rattle.radio_book.specs.ControlLists.{entries_in, AreWantedOver, AreWantedThere, CanBe, HasNoPass, IsControlLent, IsControlReply, IsMadeByEntries, IsOpening, WasThere}
 use Rattle.radio_book.specs.ControlLists.CanBe.{opens, stays, steps}
-use Rattle.radio_book.specs.LentParts.{AreBack, AreLent, ControlState, IsBack, IsControlAsBefore, IsControlStep, IsLentOrStays, IsRefused}
-use Rattle.radio_book.specs.MountBooks.{with_moment, with_mount_part, AreCuts, BookOfMount}
 
 exchanged_common : (part there : MountPart) (before after : World) → IsLentTo part there before after → common_of after ≡ common_of before
 exchanged_common part there before after is = ap (λ (station : StationState). common_of (record after { station = station })) is.station

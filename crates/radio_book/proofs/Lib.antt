@@ -5,3 +5,4 @@ pub mod MountBookLemmas
 mod DrawLemmas
 mod HistoryLemmas
 mod ClockLemmas
+mod Words

@@ -1,13 +1,6 @@
 -- Books that are lent and taken back are the same books.
 use Rattle.std.proofs.Common.{◌≡◌, inl, inr, Bool, List, [], ◌∷◌, ◌++◌, Result, Ok, Err, IfOk, OnErr, refl, ap, ◌∙◌}
-use Rattle.std.specs.Prelude.{map}
-use Rattle.std.specs.declared.alloc.AllocError.{AllocError}
-use Rattle.radio_chronicle.specs.declared.line.ControlLine.{ControlLine}
-use Rattle.radio_parts_station.specs.World.{World}
-use Rattle.radio_events.specs.declared.event.Event.{Event}
-use Rattle.radio_events.specs.declared.reply.Reply.{Reply}
-use Rattle.radio_book.specs.LentParts.{AreBack, AreLent, IsBack, IsControlStep, IsLentOrStays, IsRefused}
-use Rattle.radio_book.specs.MountBooks.{mount_and_list, AreCuts, BookOfMount, IsCut}
+use Rattle.radio_book.proofs.Words.{map, AllocError, ControlLine, World, Event, Reply, AreBack, AreLent, IsBack, IsControlStep, IsLentOrStays, IsRefused, mount_and_list, AreCuts, BookOfMount, IsCut}
 
 lent_same : (reached : Bool) (book lent : BookOfMount) (before after : World) → IsLentOrStays reached book lent before after → mount_and_list lent ≡ mount_and_list book
 lent_same reached book lent before after (inl is) = ap mount_and_list is.0

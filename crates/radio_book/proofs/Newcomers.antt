@@ -1,16 +1,11 @@
 -- Who is there after a call.
 use Rattle.std.proofs.Common.{◌≡◌, ◌≤◌, ◌<◌, ◌+◌, ℕ, Bool, true, List, [], ◌∷◌, ◌++◌, Option, None, Some, length, refl, sym, ap, ◌∙◌}
 use Rattle.std.proofs.Common.{arith, length-append}
-use Rattle.std.specs.List.{remove}
+use Rattle.radio_book.proofs.Words.{remove, Event, Arrive, RelayUp, Push, Title, Draw, Reply, is_part_event, ReceiptOf}
 use Rattle.std.proofs.lemmas.Bool.{false≢true}
 use Rattle.std.proofs.lemmas.Grind.{common_steps}
 use Rattle.std.proofs.lemmas.List.Quantifiers.{position-Some}
-use Rattle.radio_events.specs.declared.event.Event.{Event}
-use Rattle.radio_events.specs.declared.event.Event.TheVariants.{Arrive, RelayUp, Push, Title, Draw}
-use Rattle.radio_events.specs.declared.reply.Reply.{Reply}
 use Rattle.radio_events.specs.declared.reply.Reply.TheVariants.{Arrived}
-use Rattle.radio_chronicle.specs.OwnSteps.{is_part_event}
-use Rattle.radio_book.specs.Receipts.{ReceiptOf}
 use Rattle.radio_book.specs.declared.newcomer.Newcomer.{Newcomer}
 use Rattle.radio_book.specs.declared.newcomer.Newcomer.TheVariants.{Client, Relay}
 use Rattle.radio_book.specs.Newcomers.{present_after, present_from, present_of, present_by, is_arrival, is_same, leaver_of, newcomer_by, with_newcomer}

@@ -1,16 +1,9 @@
 -- What a part has done by itself, as its book's: it replied, or it is not here.
 use Rattle.std.proofs.Common.{◌≡◌, ℕ, List, Option, Result, Ok, Err, IfOk, OnOk, refl, ap, sym, subst, ◌∙◌}
-use Rattle.std.specs.declared.alloc.AllocError.{AllocError}
-use Rattle.radio_events.specs.declared.event.Event.{Event}
-use Rattle.radio_events.specs.declared.reply.Reply.{Reply}
-use Rattle.radio_parts_mount.specs.declared.part.MountPart.{MountPart}
-use Rattle.radio_parts_mount.specs.declared.step.PartAnswer.{PartAnswer}
-use Rattle.radio_parts_mount.specs.declared.step.PartAnswer.TheVariants.{Replied, Elsewhere}
-use Rattle.radio_chronicle.specs.OwnSteps.{answered_here, once, part_here, CanDrawHere, IsKeptUnlessReplied, IsNoPartsOwn}
+use Rattle.radio_book.proofs.Words.{AllocError, Event, Reply, MountPart, PartAnswer, Replied, Elsewhere, answered_here, once, part_here, CanDrawHere, IsKeptUnlessReplied, IsNoPartsOwn, noted_own, once_in, own_in}
+use Rattle.radio_book.proofs.Words.{with_mount_part, BookOfMount, CanOwn, IsDone, IsNotedIn, IsNotHere, IsOwnStep, ReceiptOf}
 use Rattle.radio_chronicle.specs.Stamps.{stamp}
 use Rattle.radio_chronicle.specs.declared.own_steps.Twice.{Twice}
-use Rattle.radio_book.specs.MountBooks.{noted_own, once_in, own_in, with_mount_part, BookOfMount, CanOwn, IsDone, IsNotedIn, IsNotHere, IsOwnStep}
-use Rattle.radio_book.specs.Receipts.{ReceiptOf}
 use Rattle.radio_book.specs.declared.mount_book.Own.{Own}
 
 -- the answer of the part of this book, which becomes that

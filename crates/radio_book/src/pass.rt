@@ -19,6 +19,8 @@ pub struct Pass<C: Chronicle, H: Origin> {
     pub(crate) holdings: Holdings<H>,
     /// Of a client or a relay by its number: the list of the mount where it was attached last. It may be somewhere else by now.
     whereabouts: HashMap<u64, u64>,
+    /// The list that was remembered last, if one was.
+    recent: Option<u64>,
     of: PhantomData<C>,
 }
 
@@ -27,6 +29,7 @@ impl<C: Chronicle, H: Origin> Drop for Pass<C, H> {
         let Pass {
             holdings,
             whereabouts,
+            recent: _,
             of: _,
         } = self;
         drop(holdings);
@@ -50,6 +53,7 @@ impl<C: Chronicle, H: Origin> Pass<C, H> {
         Pass {
             holdings,
             whereabouts: HashMap::new(alloc),
+            recent: None,
             of: PhantomData,
         }
     }
@@ -92,10 +96,16 @@ impl<C: Chronicle, H: Origin> Pass<C, H> {
         self.whereabouts.get(&id).copied()
     }
 
+    /// Returns the number of the list that was remembered last, of whichever client or relay, if one was.
+    pub fn recent_list(&self) -> Option<u64> {
+        self.recent
+    }
+
     /// Remembers where the client or relay is attached. If memory is refused, it is not remembered.
     pub fn remember(&mut self, id: u64, list: u64)
         ensures { self.new ≡ self.old }
     {
+        self.recent = Some(list);
         let _ = self.whereabouts.insert(id, list);
     }
 

@@ -1,2 +1,3 @@
 mod OwnLemmas
 mod TotalLemmas
+mod Words

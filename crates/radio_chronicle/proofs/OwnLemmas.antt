@@ -5,19 +5,14 @@ use Rattle.radio_tables.specs.Lists.{update_first}
 use Rattle.radio_tables.proofs.FindLaws.{unchanged}
 use Rattle.radio_attachments.specs.declared.attachment.Attachment.{Attachment}
 use Rattle.radio_attachments.specs.Rows.{is_attached, at_place}
-use Rattle.radio_events.specs.Replies.{HoldsNoText}
-use Rattle.radio_events.specs.declared.event.Event.{Event}
+use Rattle.radio_chronicle.proofs.Words.{HoldsNoText, Event, Reply, Deny, Noted, heard_on, is_fed_by, is_spent_with, part_after, part_answers, MountPart, drawer_in, is_part_event, once, set_back_in, IsKeptUnlessReplied}
+use Rattle.radio_chronicle.proofs.Words.{IsNoPartsOwn}
 use Rattle.radio_events.specs.declared.event.Event.TheVariants.{Arrive, Source, Push, SourceEnd, Title, Listen, Draw, Command, Leave, RelayUp, RelayDown, Clock}
-use Rattle.radio_events.specs.declared.reply.Reply.{Reply}
-use Rattle.radio_events.specs.declared.reply.Reply.TheVariants.{Deny, Noted}
 use Rattle.radio_policy.specs.declared.rule.Rule.TheVariants.{NumbersSpent}
 use Rattle.radio_parts_mount.proofs.PartLemmas.{none_changes}
-use Rattle.radio_parts_mount.specs.Steps.{heard_on, is_fed_by, is_spent_with, part_after, part_answers}
-use Rattle.radio_parts_mount.specs.declared.part.MountPart.{MountPart}
 use Rattle.radio_parts_mount.specs.declared.step.PartAnswer.{PartAnswer}
 use Rattle.radio_parts_mount.specs.declared.step.PartAnswer.TheVariants.{Replied, Elsewhere}
 use Rattle.std.specs.declared.alloc.AllocError.{AllocError}
-use Rattle.radio_chronicle.specs.OwnSteps.{drawer_in, is_part_event, once, set_back_in, IsKeptUnlessReplied, IsNoPartsOwn}
 use Rattle.radio_chronicle.specs.declared.own_steps.Twice.{Twice}
 use Rattle.radio_chronicle.specs.declared.own_steps.Twice.TheVariants.{Replied as RepliedTwice, Elsewhere as GivenBack}
 

@@ -3,9 +3,7 @@ use Rattle.std.proofs.Common.{◌≡◌, ℕ, ◌+◌, List, [], ◌∷◌, ◌+
 use Rattle.std.proofs.lemmas.List.Sums.{sum_by-cons}
 use Rattle.radio_settings_values.specs.declared.settings.Settings.{Settings}
 use Rattle.radio_access.specs.Lists.{Lists}
-use Rattle.radio_events.specs.declared.event.Event.{Event}
-use Rattle.radio_events.specs.declared.reply.Reply.{Reply}
-use Rattle.radio_events.specs.declared.reply.Reply.TheVariants.{Arrived}
+use Rattle.radio_chronicle.proofs.Words.{Event, Reply, Arrived}
 use Rattle.radio_parts_station.specs.World.{World, opening}
 use Rattle.radio_core.specs.Others.{AsClient, AsRelay, HasCome, RepliesFit}
 use Rattle.radio_core.specs.Run.{world_after_all, run_after}

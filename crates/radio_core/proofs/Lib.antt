@@ -6,3 +6,4 @@ pub mod Sessions
 pub mod Numbers
 pub mod Commands
 pub mod Threads
+mod Words

@@ -1,5 +1,5 @@
 -- A core may go to another thread.
-use denote.Param.Send.{IsSend, sendable, view_send}
+use denote.Param.Send.{IsSend, view_send}
 use Rattle.radio_parts_mount.proofs.Threads.{declared_send}
 use Rattle.radio_parts.proofs.Threads.{control_send}
 use Rattle.radio_core.specs.contracts.server.Core as core

@@ -1,25 +1,9 @@
 -- the turns of a carry, one after the other
 use Rattle.std.proofs.Common.{◌≡◌, Bool, true, false, ℕ, ◌+◌, ◌<◌, ◌≤◌, ◌^◌, Option, Some, None, List, [], ◌∷◌, length, refl, ap, sym, ◌∙◌, arith}
-use Rattle.std.specs.Prelude.{find, filter, if◌then◌else◌}
-use Rattle.std.specs.List.{AllByRecursion}
-use Rattle.std.specs.List.Sorted.{IsStrictlySortedBy}
-use Rattle.std.specs.Ordering.{nat_cmp, is_lt}
-use Rattle.std.specs.declared.cmp.Ordering.TheVariants.{Less}
-use Rattle.std.proofs.lemmas.Bool.Decides.{nat_tests}
+use Rattle.radio_fallback.proofs.Words.{find, filter, if◌then◌else◌, AllByRecursion, IsStrictlySortedBy, nat_cmp, is_lt, Less, nat_tests, sorted_head, sorted_tail, update_first, is_past, find_here, find_later, Listener}
+use Rattle.radio_fallback.proofs.Words.{is_listener, moved, loses, next_number, map_found, Carried, Move, MoveEffect, Stays, GoesTo, IsOut, Sight, Carry, turn_of, carry_after_move, turns, numbers_of, numbers_past}
+use Rattle.radio_fallback.proofs.Words.{at_first, carried}
 use Rattle.std.proofs.lemmas.List.{length-map}
-use Rattle.std.proofs.lemmas.Map.Keys.{sorted_head, sorted_tail}
-use Rattle.radio_tables.specs.Lists.{update_first}
-use Rattle.radio_tables.specs.Past.{is_past}
-use Rattle.radio_tables.proofs.FindLaws.{find_here, find_later}
-use Rattle.radio_seats_rows.specs.declared.seat.Listener.{Listener}
-use Rattle.radio_seats_rows.specs.Seats.{is_listener, moved, loses, next_number}
-use Rattle.radio_seats_rows.proofs.Lists.{map_found}
-use Rattle.radio_fallback.specs.declared.moves.Carried.{Carried}
-use Rattle.radio_fallback.specs.declared.moves.Move.{Move}
-use Rattle.radio_fallback.specs.declared.moves.MoveEffect.{MoveEffect}
-use Rattle.radio_fallback.specs.declared.moves.MoveEffect.TheVariants.{Stays, GoesTo, IsOut}
-use Rattle.radio_fallback.specs.Walk.{Sight}
-use Rattle.radio_fallback.specs.Carry.{Carry, turn_of, carry_after_move, turns, numbers_of, numbers_past, at_first, carried}
 
 -- rising numbers, and those of them that come past one of them
 above_passes : (n m : ℕ) → nat_cmp n m ≡ Less → is_past nat_cmp (Some n) m ≡ true

@@ -1,15 +1,7 @@
 -- where a listener lands, and what its turn comes to, does not go by where streams end
 use Rattle.std.proofs.Common.{◌≡◌, ℕ, zero, suc, List, Option, Some, None, refl, ap, sym, ◌∙◌}
-use Rattle.std.specs.Prelude.{if◌then◌else◌}
-use Rattle.radio_creds.specs.Credentials.{Credentials}
-use Rattle.radio_seats_rows.specs.declared.seat.Listener.{Listener}
-use Rattle.radio_seats_rows.specs.declared.seat.Seat.{Seat}
-use Rattle.radio_seats_rows.specs.Seats.{seat_of, without_listener}
-use Rattle.radio_fallback.specs.declared.moves.Move.{Move}
-use Rattle.radio_fallback.specs.declared.moves.Move.TheVariants.{Ended, Up, To}
-use Rattle.radio_fallback.specs.declared.moves.MoveEffect.TheVariants.{Stays}
-use Rattle.radio_fallback.specs.Walk.{Sight, with_ends, landing_here, next_mount, onward, walk, landing}
-use Rattle.radio_fallback.specs.Carry.{concerns, walks_on, turn_by, turn_in, turn_of}
+use Rattle.radio_fallback.proofs.Words.{if◌then◌else◌, Credentials, Listener, Seat, seat_of, without_listener, Move, Ended, Up, To, Stays, Sight, with_ends, landing_here, next_mount, onward, walk, landing, concerns}
+use Rattle.radio_fallback.proofs.Words.{walks_on, turn_by, turn_in, turn_of}
 use Rattle.radio_fallback.proofs.WalkLaws.{walks_ten}
 
 module _ (sight : Sight) (ends : List ℕ → ℕ) where

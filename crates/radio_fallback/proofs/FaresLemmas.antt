@@ -1,32 +1,11 @@
 -- what each turn of a carry keeps, and so the whole
 use Rattle.std.proofs.Common.{◌≡◌, Bool, true, false, ℕ, ◌+◌, ◌<◌, ◌≤◌, ◌==◌, ◌⊎◌, inl, inr, Option, Some, None, List, [], ◌∷◌, not, refl, ap, sym, subst, ◌∙◌, arith}
-use Rattle.std.specs.Prelude.{◌&&◌, find, nat_lt, if◌then◌else◌}
-use Rattle.std.specs.List.Sorted.{IsStrictlySortedBy}
-use Rattle.std.specs.Ordering.{nat_cmp}
-use Rattle.std.specs.Option.{option_map}
-use Rattle.std.specs.Str.{bytes_eq}
-use Rattle.std.proofs.lemmas.Bool.{eqb-true}
-use Rattle.std.proofs.lemmas.Bool.Decides.{nat_tests}
-use Rattle.std.proofs.lemmas.Slice.Eq.{bytes_eq-Decides}
-use Rattle.radio_creds.specs.Credentials.{Credentials}
-use Rattle.radio_policy.specs.declared.rule.Rule.{Rule}
-use Rattle.radio_tables.specs.Lists.{update_first}
-use Rattle.radio_tables.proofs.FindLaws.{find_here, find_later, find_apart}
+use Rattle.radio_fallback.proofs.Words.{◌&&◌, find, nat_lt, if◌then◌else◌, IsStrictlySortedBy, nat_cmp, option_map, bytes_eq, eqb-true, nat_tests, bytes_eq-Decides, Credentials, Rule, update_first, find_here, find_later}
+use Rattle.radio_fallback.proofs.Words.{find_apart, Listener, Seat, Seating, Sits, Finished, is_listener, listener_of, seat_held, seat_in, seat_of, moved, moved_to, with_move, loses, lost_by, with_end, without_listener}
+use Rattle.radio_fallback.proofs.Words.{is_seat_at, count_at, has_user, sits_there, SitsAs, AreByNumber, beside_left, one, held, passing_updated, passing_removed, Move, MoveEffect, Stays, GoesTo, IsOut, Sight, is_full}
+use Rattle.radio_fallback.proofs.Words.{is_twice_for, sits_already, Carry, turn_of, carry_after_move, turns, numbers_of, at_first, carried, IsWithinLimit, SitOnce, seat_at_end, IsCarriedTo, HadASeat}
 use Rattle.radio_tables.proofs.KeyLaws.{by_number, by_name}
-use Rattle.radio_seats_rows.specs.declared.seat.Listener.{Listener}
-use Rattle.radio_seats_rows.specs.declared.seat.Seat.{Seat}
-use Rattle.radio_seats_rows.specs.declared.seat.Seating.{Seating}
-use Rattle.radio_seats_rows.specs.declared.seat.Seating.TheVariants.{Sits, Finished}
-use Rattle.radio_seats_rows.specs.Seats.{is_listener, listener_of, seat_held, seat_in, seat_of, moved, moved_to, with_move, loses, lost_by, with_end, without_listener, is_seat_at, count_at, has_user, sits_there, SitsAs, AreByNumber}
-use Rattle.radio_seats_rows.proofs.SeatLaws.{beside_left}
 use Rattle.radio_seats_rows.proofs.CountLaws.{no_more_updated, nobody_sits_as}
-use Rattle.radio_seats_rows.proofs.Lists.{one, held, passing_updated, passing_removed}
-use Rattle.radio_fallback.specs.declared.moves.Move.{Move}
-use Rattle.radio_fallback.specs.declared.moves.MoveEffect.{MoveEffect}
-use Rattle.radio_fallback.specs.declared.moves.MoveEffect.TheVariants.{Stays, GoesTo, IsOut}
-use Rattle.radio_fallback.specs.Walk.{Sight, is_full, is_twice_for, sits_already}
-use Rattle.radio_fallback.specs.Carry.{Carry, turn_of, carry_after_move, turns, numbers_of, at_first, carried}
-use Rattle.radio_fallback.specs.Fares.{IsWithinLimit, SitOnce, seat_at_end, IsCarriedTo, HadASeat}
 use Rattle.radio_fallback.proofs.CarryLemmas.{same_numbers}
 use Rattle.radio_fallback.proofs.TurnLemmas.{IsShifted, is_shifted}
 

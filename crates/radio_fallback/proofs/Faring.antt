@@ -1,26 +1,9 @@
 -- how one listener fares in a carry, by its turn
 use Rattle.std.proofs.Common.{◌≡◌, Bool, true, false, ℕ, ◌==◌, Option, Some, None, List, [], ◌∷◌, refl, ap, sym, ◌∙◌, arith}
-use Rattle.std.specs.Prelude.{find, filter, nat_lt, if◌then◌else◌}
-use Rattle.std.proofs.lemmas.Bool.{eqb-true}
-use Rattle.std.proofs.lemmas.Bool.Decides.{nat_tests}
-use Rattle.radio_policy.specs.declared.rule.Rule.{Rule}
-use Rattle.radio_tables.specs.Lists.{Each}
+use Rattle.radio_fallback.proofs.Words.{find, filter, nat_lt, if◌then◌else◌, eqb-true, nat_tests, Rule, Each, found_passes, Listener, Seat, Seating, Sits, Finished, is_listener, listener_of, seat_held, seat_in, seat_of}
+use Rattle.radio_fallback.proofs.Words.{moved, loses, without_listener, AreByNumber, Move, Ended, Up, To, MoveEffect, Stays, GoesTo, IsOut, Landing, Lands, Stops, Sight, MaySit, found_at, stop_of, landing_at, landing}
+use Rattle.radio_fallback.proofs.Words.{Carry, concerns, walks_on, is_asked, turn_by, turn_in, turn_of, carry_after_move, turns, numbers_of, at_first, carried, at_his_turn, fared, seat_at_end}
 use Rattle.radio_tables.proofs.EachLaws.{Each_updated}
-use Rattle.radio_tables.proofs.FindLaws.{found_passes}
-use Rattle.radio_seats_rows.specs.declared.seat.Listener.{Listener}
-use Rattle.radio_seats_rows.specs.declared.seat.Seat.{Seat}
-use Rattle.radio_seats_rows.specs.declared.seat.Seating.{Seating}
-use Rattle.radio_seats_rows.specs.declared.seat.Seating.TheVariants.{Sits, Finished}
-use Rattle.radio_seats_rows.specs.Seats.{is_listener, listener_of, seat_held, seat_in, seat_of, moved, loses, without_listener, AreByNumber}
-use Rattle.radio_fallback.specs.declared.moves.Move.{Move}
-use Rattle.radio_fallback.specs.declared.moves.Move.TheVariants.{Ended, Up, To}
-use Rattle.radio_fallback.specs.declared.moves.MoveEffect.{MoveEffect}
-use Rattle.radio_fallback.specs.declared.moves.MoveEffect.TheVariants.{Stays, GoesTo, IsOut}
-use Rattle.radio_fallback.specs.declared.walking.Landing.{Landing}
-use Rattle.radio_fallback.specs.declared.walking.Landing.TheVariants.{Lands, Stops}
-use Rattle.radio_fallback.specs.Walk.{Sight, MaySit, found_at, stop_of, landing_at, landing}
-use Rattle.radio_fallback.specs.Carry.{Carry, concerns, walks_on, is_asked, turn_by, turn_in, turn_of, carry_after_move, turns, numbers_of, at_first, carried, at_his_turn}
-use Rattle.radio_fallback.specs.Fares.{fared, seat_at_end}
 use Rattle.radio_fallback.proofs.FaresLemmas.{numbers_kept, turn_cases}
 use Rattle.radio_fallback.proofs.HisTurn.{others_turn, by_his_turn}
 use Rattle.radio_fallback.proofs.TurnLemmas.{is_shifted}

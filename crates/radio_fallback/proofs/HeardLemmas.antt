@@ -1,37 +1,12 @@
 -- where one sits, and what its turn comes to, does not go by how far anybody has heard
-use Rattle.std.proofs.Common.{◌≡◌, Bool, true, false, ℕ, ◌==◌, zero, suc, Option, Some, None, List, [], ◌∷◌, length, not, ◌⊎◌, inl, inr, refl, ap, sym, subst, ◌∙◌, arith}
-use Rattle.std.specs.Prelude.{map, filter, find, if◌then◌else◌, unwrap_or}
-use Rattle.std.specs.List.{AllByRecursion}
-use Rattle.std.specs.List.Sorted.{IsStrictlySortedBy}
-use Rattle.std.specs.Option.{option_map, option_map_or}
-use Rattle.std.specs.Ordering.{nat_cmp}
-use Rattle.std.specs.Str.{bytes_eq}
-use Rattle.std.specs.declared.cmp.Ordering.TheVariants.{Less}
-use Rattle.std.proofs.lemmas.Bool.{eqb-true}
-use Rattle.std.proofs.lemmas.Bool.Decides.{nat_tests}
-use Rattle.std.proofs.lemmas.Map.Keys.{sorted_head, sorted_tail}
-use Rattle.radio_tables.specs.Lists.{update_first, Each}
-use Rattle.radio_tables.proofs.FindLaws.{find_mapped, find_here, find_later}
-use Rattle.radio_creds.specs.Credentials.{Credentials}
-use Rattle.radio_policy.specs.declared.rule.Rule.{Rule}
-use Rattle.radio_seats_rows.specs.declared.seat.Listener.{Listener}
-use Rattle.radio_seats_rows.specs.declared.seat.Seat.{Seat}
-use Rattle.radio_seats_rows.specs.declared.seat.Seating.{Seating}
-use Rattle.radio_seats_rows.specs.declared.seat.Seating.TheVariants.{Sits, Finished}
-use Rattle.radio_seats_rows.specs.Seats.{is_listener, listener_of, seat_held, seat_in, seat_of, is_seat_at, seats_at, count_at, is_user_at, sits_there, without_listener, AreByNumber}
-use Rattle.radio_seats_rows.specs.Seats.{next_number, with_move, with_end, moved, loses, moved_to, lost_by}
-use Rattle.radio_fallback.specs.declared.moves.Move.{Move}
-use Rattle.radio_fallback.specs.declared.moves.Move.TheVariants.{Ended, Up, To}
-use Rattle.radio_fallback.specs.declared.walking.Landing.{Landing}
-use Rattle.radio_fallback.specs.Walk.{Sight, is_full, is_full_for, sits_already, found_at, stop_of, landing_at, landing_here, hands_on, next_mount, onward, walk, landing}
-use Rattle.radio_fallback.specs.Carry.{concerns, walks_on, is_asked, turn_by, turn_in, turn_of, carry_after_move, turns, at_first, carried, Carry, numbers_of, numbers_past}
-use Rattle.radio_fallback.specs.Heard.{Heard, heard_seating, heard_by, heard, OthersStay, IsAt}
-use Rattle.radio_fallback.specs.declared.moves.MoveEffect.{MoveEffect}
-use Rattle.radio_fallback.specs.declared.moves.MoveEffect.TheVariants.{Stays, GoesTo, IsOut}
-use Rattle.radio_fallback.specs.declared.moves.Carried.{Carried}
+use Rattle.std.proofs.Common.{◌≡◌, Bool, true, false, ℕ, ◌==◌, zero, suc, Option, Some, None, List, [], ◌∷◌, length, not, inl, inr, refl, ap, sym, subst, ◌∙◌, arith}
+use Rattle.radio_fallback.proofs.Words.{filter, if◌then◌else◌, unwrap_or, AllByRecursion, IsStrictlySortedBy, option_map, nat_cmp, Less, eqb-true, nat_tests, sorted_head, sorted_tail, update_first, Each, find_mapped}
+use Rattle.radio_fallback.proofs.Words.{Credentials, Rule, Listener, Seating, Sits, Finished, is_listener, listener_of, seat_held, seat_in, seat_of, is_seat_at, seats_at, count_at, is_user_at, sits_there}
+use Rattle.radio_fallback.proofs.Words.{without_listener, AreByNumber, next_number, with_move, with_end, moved, loses, moved_to, lost_by, Move, Ended, Up, To, Sight, is_full, is_full_for, sits_already, found_at, stop_of}
+use Rattle.radio_fallback.proofs.Words.{landing_at, landing_here, next_mount, onward, walk, landing, concerns, walks_on, is_asked, turn_by, turn_in, turn_of, carry_after_move, turns, at_first, carried, Carry, numbers_of}
+use Rattle.radio_fallback.proofs.Words.{numbers_past, Heard, heard_seating, heard_by, heard, OthersStay, IsAt, MoveEffect, Stays, GoesTo, IsOut, Carried, is_past}
 use Rattle.radio_fallback.proofs.WalkLaws.{walks_ten}
 use Rattle.radio_fallback.proofs.CarryLemmas.{everybody_is_past, next_has_his_turn, same_numbers}
-use Rattle.radio_tables.specs.Past.{is_past}
 
 module _ (f : Heard) where
   -- the same numbers

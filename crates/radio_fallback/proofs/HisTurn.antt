@@ -1,24 +1,8 @@
 -- what becomes of a listener is what its turn has in store for it
 use Rattle.std.proofs.Common.{◌≡◌, Bool, true, false, ℕ, ◌==◌, Option, Some, None, List, [], ◌∷◌, refl, ap, sym, subst, ◌∙◌, arith}
-use Rattle.std.specs.Prelude.{find, filter, nat_lt}
-use Rattle.std.specs.List.{AllByRecursion}
-use Rattle.std.specs.List.Sorted.{IsStrictlySortedBy}
-use Rattle.std.specs.Option.{option_map}
-use Rattle.std.specs.Ordering.{nat_cmp}
-use Rattle.std.specs.declared.cmp.Ordering.TheVariants.{Less}
-use Rattle.std.proofs.lemmas.Bool.{eqb-true}
-use Rattle.std.proofs.lemmas.Bool.Decides.{nat_tests}
-use Rattle.std.proofs.lemmas.Map.Keys.{sorted_head, sorted_tail}
-use Rattle.radio_tables.proofs.FindLaws.{find_later, found_passes}
-use Rattle.radio_seats_rows.specs.declared.seat.Listener.{Listener}
-use Rattle.radio_seats_rows.specs.Seats.{is_listener, listener_of, moved, loses, AreByNumber}
-use Rattle.radio_seats_rows.proofs.Lists.{map_found}
-use Rattle.radio_fallback.specs.declared.moves.Move.{Move}
-use Rattle.radio_fallback.specs.declared.moves.MoveEffect.{MoveEffect}
-use Rattle.radio_fallback.specs.declared.moves.MoveEffect.TheVariants.{Stays, GoesTo, IsOut}
-use Rattle.radio_fallback.specs.Walk.{Sight}
-use Rattle.radio_fallback.specs.Carry.{Carry, turn_of, carry_after_move, turns, numbers_of, at_first, carried, at_his_turn}
-use Rattle.radio_fallback.specs.Fares.{fared}
+use Rattle.radio_fallback.proofs.Words.{find, filter, nat_lt, AllByRecursion, IsStrictlySortedBy, option_map, nat_cmp, Less, eqb-true, nat_tests, sorted_head, sorted_tail, find_later, found_passes, Listener, is_listener}
+use Rattle.radio_fallback.proofs.Words.{listener_of, moved, loses, AreByNumber, map_found, Move, MoveEffect, Stays, GoesTo, IsOut, Sight, Carry, turn_of, carry_after_move, turns, numbers_of, at_first, carried}
+use Rattle.radio_fallback.proofs.Words.{at_his_turn, fared}
 use Rattle.radio_fallback.proofs.FaresLemmas.{beside, found_changed}
 
 -- its turn changes it, and another's does not

@@ -8,3 +8,4 @@ pub mod MovedCounts
 pub mod HeardLemmas
 pub mod FitsLemmas
 pub mod EndLemmas
+mod Words

@@ -1,18 +1,8 @@
 -- as many are told to have been moved to a mount as sit there more
 use Rattle.std.proofs.Common.{◌≡◌, Bool, true, false, ℕ, suc, ◌+◌, Option, Some, None, List, [], ◌∷◌, length, refl, ap, sym, ◌∙◌, arith}
-use Rattle.std.specs.Prelude.{if◌then◌else◌}
-use Rattle.std.specs.Str.{bytes_eq}
-use Rattle.std.proofs.lemmas.Slice.Eq.{bytes_eq-Decides}
-use Rattle.radio_seats_rows.specs.declared.seat.Listener.{Listener}
-use Rattle.radio_seats_rows.specs.declared.seat.Seat.{Seat}
-use Rattle.radio_seats_rows.specs.declared.seat.Seating.{Seating}
-use Rattle.radio_seats_rows.specs.declared.seat.Seating.TheVariants.{Sits, Finished}
-use Rattle.radio_seats_rows.specs.Seats.{is_listener, listener_of, seat_held, seat_in, seat_of, moved, moved_to, with_move, without_listener, is_seat_at, seats_at, count_at}
-use Rattle.radio_fallback.specs.declared.moves.Move.TheVariants.{To}
-use Rattle.radio_fallback.specs.declared.moves.MoveEffect.{MoveEffect}
-use Rattle.radio_fallback.specs.declared.moves.MoveEffect.TheVariants.{Stays, GoesTo, IsOut}
-use Rattle.radio_fallback.specs.Carry.{Carry, concerns, turn_by, turn_in, turn_of, carry_after_move, turns, at_first, carried, numbers_of}
-use Rattle.radio_fallback.specs.Walk.{Sight}
+use Rattle.radio_fallback.proofs.Words.{if◌then◌else◌, bytes_eq, bytes_eq-Decides, Listener, Seat, Seating, Sits, Finished, is_listener, listener_of, seat_held, seat_in, seat_of, moved, moved_to, with_move}
+use Rattle.radio_fallback.proofs.Words.{without_listener, is_seat_at, seats_at, count_at, To, MoveEffect, Stays, GoesTo, IsOut, Carry, concerns, turn_by, turn_in, turn_of, carry_after_move, turns, at_first, carried}
+use Rattle.radio_fallback.proofs.Words.{numbers_of, Sight}
 use Rattle.radio_fallback.proofs.Faring.{goes_there, never_out_there}
 
 -- where one who sits elsewhere goes to a mount, one more sits there

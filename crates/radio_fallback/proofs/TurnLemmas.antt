@@ -1,17 +1,7 @@
 -- what a turn comes to: it goes only where it may sit
 use Rattle.std.proofs.Common.{◌≡◌, Bool, true, false, ℕ, zero, suc, Option, Some, None, List, refl, ap, subst, ◌∙◌}
-use Rattle.std.specs.Prelude.{if◌then◌else◌}
-use Rattle.radio_creds.specs.Credentials.{Credentials}
-use Rattle.radio_seats_rows.specs.declared.seat.Listener.{Listener}
-use Rattle.radio_seats_rows.specs.declared.seat.Seat.{Seat}
-use Rattle.radio_seats_rows.specs.Seats.{seat_of, without_listener}
-use Rattle.radio_fallback.specs.declared.walking.Landing.{Landing}
-use Rattle.radio_fallback.specs.declared.walking.Landing.TheVariants.{Lands, Stops}
-use Rattle.radio_fallback.specs.declared.moves.Move.{Move}
-use Rattle.radio_fallback.specs.declared.moves.Move.TheVariants.{Ended, Up, To}
-use Rattle.radio_fallback.specs.declared.moves.MoveEffect.TheVariants.{Stays, GoesTo}
-use Rattle.radio_fallback.specs.Walk.{Sight, MaySit, found_at, stop_of, landing_at, landing_here, next_mount, onward, walk, landing}
-use Rattle.radio_fallback.specs.Carry.{concerns, walks_on, is_asked, turn_by, turn_in, turn_of}
+use Rattle.radio_fallback.proofs.Words.{if◌then◌else◌, Credentials, Listener, Seat, seat_of, without_listener, Landing, Lands, Stops, Move, Ended, Up, To, Stays, GoesTo, Sight, MaySit, found_at, stop_of, landing_at}
+use Rattle.radio_fallback.proofs.Words.{landing_here, next_mount, onward, walk, landing, concerns, walks_on, is_asked, turn_by, turn_in, turn_of}
 use Rattle.radio_fallback.proofs.WalkLaws.{walks_ten}
 
 module _ (sight : Sight) (others : List Listener) (pair : Option Credentials) where

@@ -1,10 +1,6 @@
 -- what a walk comes to
 use Rattle.std.proofs.Common.{◌≡◌, ◌-◌, ◌<◌, ℕ, zero, suc, Bool, true, false, List, Option, Some, None, refl, arith}
-use Rattle.std.specs.Prelude.{if◌then◌else◌}
-use Rattle.radio_creds.specs.Credentials.{Credentials}
-use Rattle.radio_policy.specs.declared.rule.Rule.{Rule}
-use Rattle.radio_seats_rows.specs.declared.seat.Listener.{Listener}
-use Rattle.radio_fallback.specs.Walk.{Sight, found_at, stop_of, landing_at, landing_here, hands_on, next_mount, onward, walk, landing, stop_in}
+use Rattle.radio_fallback.proofs.Words.{if◌then◌else◌, Credentials, Rule, Listener, Sight, found_at, stop_of, landing_at, landing_here, hands_on, next_mount, onward, walk, landing, stop_in}
 
 stop_at : (mount : List ℕ) (stop : Option Rule) → stop_in (landing_at mount stop) ≡ stop
 stop_at mount None = refl

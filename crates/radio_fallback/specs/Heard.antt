@@ -1,5 +1,5 @@
 -- How far each listener has heard, if that is kept apart from the seats, at the mount where it is attached.
-use Rattle.std.specs.Prelude.{◌≡◌, ◌⊎◌, ℕ, Bool, true, false, ◌==◌, List, Option, None, Some, map, unwrap_or, is_some}
+use Rattle.std.specs.Prelude.{◌≡◌, ◌⊎◌, ℕ, true, false, ◌==◌, List, Option, None, Some, map, unwrap_or, is_some}
 use Rattle.std.specs.Str.{bytes_eq}
 use Rattle.radio_seats_rows.specs.Seats.{sits_at}
 use Rattle.radio_seats_rows.specs.declared.seat.Listener.{Listener}

@@ -1,23 +1,9 @@
 -- What a connection's events answer, for each state that the core represents.
 use Rattle.std.proofs.Common.{◌≡◌, List, [], ◌∷◌, ℕ, Some, refl, sym, ap, subst, ◌∙◌}
-use Rattle.radio_events.specs.declared.event.Event.{Event}
-use Rattle.radio_events.specs.declared.reply.Reply.{Reply}
-use Rattle.radio_events.specs.declared.state.State.{State}
-use Rattle.radio_events.specs.declared.state.State.TheVariants.{Running, Shut}
+use Rattle.radio_floor.proofs.Words.{Event, Reply, State, Running, Shut, World, core_steps, Says, Conversation, saying_now, Exchange, nothing_exchanged, prefixed, ended_with, is_leave, LeavesAfter, Exchanges, said}
+use Rattle.radio_floor.proofs.Words.{exchanged, CoresExchangeAsTheirStates, DeliveryAnswer, Client, Labelled, exchanges, written_lines, kept_unless, with_connection, AnswersAs, performed_as}
 use Rattle.radio_events.specs.declared.state.Ending.{Ending}
-use Rattle.radio_parts_station.specs.World.{World}
-use Rattle.radio_core.specs.Represents.{core_steps}
-use Rattle.radio_session.specs.declared.session.Says.{Says}
-use Rattle.radio_session.specs.Conversation.{Conversation, saying_now}
-use Rattle.radio_session.specs.Exchanges.{Exchange, nothing_exchanged, prefixed, ended_with, is_leave, LeavesAfter, GoesOn, Exchanges}
-use Rattle.radio_session.specs.Saying.{said}
-use Rattle.radio_floor.specs.Exchanges.{exchanged}
-use Rattle.radio_floor.specs.ExchangeLaws.{CoresExchangeAsTheirStates}
-use Rattle.radio_floor.specs.declared.handler.DeliveryAnswer.{DeliveryAnswer}
-use Rattle.radio_floor.specs.declared.labelled.Connection.TheVariants.{Client}
-use Rattle.radio_floor.specs.declared.labelled.Labelled.{Labelled}
-use Rattle.radio_floor.specs.ScriptState.{exchanges, written_lines, kept_unless, with_connection}
-use Rattle.radio_floor.specs.ScriptServer.{AnswersAs, performed_as}
+use Rattle.radio_session.specs.Exchanges.{GoesOn}
 
 pub answers_exchanged : (core core' : World) (before after : Conversation) (events : List Event) (answered : DeliveryAnswer) (x : Exchange)
     → CoresExchangeAsTheirStates → Exchanges core_steps before.id before.says events core x core' → answered.bytes.items ≡ x.bytes

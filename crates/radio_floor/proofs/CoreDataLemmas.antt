@@ -1,16 +1,10 @@
 -- A core's replies depend on a source's data.
 use Rattle.std.proofs.Common.{◌≡◌, ◌⊎◌, ◌++◌, sym, subst, ◌∙◌}
-use Rattle.radio_events.specs.declared.event.Event.{Event}
-use Rattle.radio_events.specs.declared.event.Event.TheVariants.{Push, SourceEnd}
-use Rattle.radio_events.specs.declared.reply.Reply.{Reply}
+use Rattle.radio_floor.proofs.Words.{Event, Push, SourceEnd, Reply, Represents, StandsForSome, core_steps, reply_to, world_after, World, CoresGoByData}
 use Rattle.radio_events.specs.Replies.{IsQuiet, EndsByRule}
 use Rattle.radio_core.specs.CoreReplies.{CoresGoByTheirStates}
 use Rattle.radio_core.specs.SourceReplies.{to_data, to_end, SourcesAreToldByTheirData, EndsAreTold}
-use Rattle.radio_core.specs.Represents.{Represents, StandsForSome, core_steps}
-use Rattle.radio_parts.specs.Step.{reply_to, world_after}
-use Rattle.radio_parts_station.specs.World.{World}
 use Rattle.radio_session.specs.DataServers.{HasOneReply}
-use Rattle.radio_floor.specs.ExchangeLaws.{CoresGoByData}
 
 -- a step of a core, from a state that it represents
 record IsStep (core core' : World) (event : Event) (reply : Reply) (w : World) : Type 0 where

@@ -1,52 +1,25 @@
 -- Deliveries yield events.
 use Rattle.std.proofs.Common.{◌≡◌, ℕ, Bool, true, false, cond, List, [], ◌∷◌, ◌++◌, Option, None, Some, Result, Ok, Err, inl, inr, refl, sym, ap, subst, ◌∙◌}
-use Rattle.std.specs.Prelude.{drop, codes, map}
+use Rattle.radio_floor.proofs.Words.{drop, codes, map, Peer, Settings, Lists, Event, Arrive, Draw, Leave, world_after_all, reply_to, world_after, World, cleaned, max_title, Says, WebAnswers, State, Running, Shut}
+use Rattle.radio_floor.proofs.Words.{Conversation, WorldExchange, exchanged, then_exchanged, is_leave, EventReading, HearsAs, greeted, head_heard, get_heard, nothing_held, body_delivered, refuses, source_heard, Said}
+use Rattle.radio_floor.proofs.Words.{said, Delivery, Open, Pull, To, Input, Data, Room, End, runs, ComeAbout, ComesToEvents, Arrives, Ticks, Pulls, IsAskedBy, IsAskedByRelay, Traced, traces, ComeToEvents, Connection}
+use Rattle.radio_floor.proofs.Words.{Client, Relay, ScriptState, Performed, AsksOn, ComesTo, ComesToClient, ComesToRelay, IsPerformed, on_connection, connection_of, opening_script, opens_connection, connects}
+use Rattle.radio_floor.proofs.Words.{relay_named, closes, exchanges, for_new_label, pulled_on, Pulling, event_of, items_of, Done, option_map, conduct, IsTranscriptOf}
 use Rattle.std.specs.Str.{bytes_eq}
-use Rattle.radio_addr.specs.declared.peer.Peer.{Peer}
-use Rattle.radio_settings_values.specs.declared.settings.Settings.{Settings}
-use Rattle.radio_access.specs.Lists.{Lists}
 use Rattle.radio_heads.specs.declared.outcome.Progress.{Progress}
 use Rattle.radio_heads.specs.declared.outcome.Progress.TheVariants.{More, Whole}
 use Rattle.radio_heads.specs.declared.outcome.HeadFault.{HeadFault}
 use Rattle.radio_heads.specs.Head.{RequestParts}
 use Rattle.radio_policy.specs.declared.rule.Rule.TheVariants.{BadMethod}
-use Rattle.radio_events.specs.declared.event.Event.{Event}
-use Rattle.radio_events.specs.declared.event.Event.TheVariants.{Arrive, Draw, Title, Leave, Clock}
-use Rattle.radio_core.specs.Run.{world_after_all}
-use Rattle.radio_parts.specs.Step.{reply_to, world_after}
-use Rattle.radio_parts_station.specs.World.{World}
-use Rattle.radio_values.specs.Cleaning.{cleaned}
-use Rattle.radio_values.specs.Limits.{max_title}
+use Rattle.radio_events.specs.declared.event.Event.TheVariants.{Title, Clock}
 use Rattle.radio_session.specs.declared.session.Hears.{Hears}
 use Rattle.radio_session.specs.declared.session.Hears.TheVariants.{Head, Body, Nothing}
-use Rattle.radio_session.specs.declared.session.Says.{Says}
-use Rattle.radio_answers.specs.declared.web_answers.WebAnswers.{WebAnswers}
-use Rattle.radio_events.specs.declared.state.State.{State}
-use Rattle.radio_events.specs.declared.state.State.TheVariants.{Running, Shut}
-use Rattle.radio_session.specs.Conversation.{Conversation}
-use Rattle.radio_floor.specs.Exchanges.{WorldExchange, exchanged, then_exchanged}
-use Rattle.radio_session.specs.Exchanges.{is_leave}
 use Rattle.radio_session.specs.Framing.{is_source, framing_of}
-use Rattle.radio_session.specs.Hearing.{EventReading, HearsAs, greeted, head_heard, get_heard, nothing_held, body_delivered}
-use Rattle.radio_session.specs.Hearing.{refuses, source_heard}
-use Rattle.radio_session.specs.Saying.{Said, said}
-use Rattle.radio_script.specs.declared.delivery.Delivery.{Delivery}
-use Rattle.radio_script.specs.declared.delivery.Delivery.TheVariants.{Open, Pull, To, Clock as ClockIs}
-use Rattle.radio_script.specs.declared.delivery.Input.{Input}
-use Rattle.radio_script.specs.declared.delivery.Input.TheVariants.{Data, Room, Title as Named, End}
-use Rattle.radio_script.proofs.SimulationLemmas.{runs}
-use Rattle.radio_floor.specs.ScriptEvents.{ComeAbout, ComesToEvents, Nothing as NoEvents, Arrives, Ticks, Exchanges, Pulls, IsAskedBy, IsAskedByRelay, Traced, traces, ComeToEvents}
-use Rattle.radio_floor.specs.declared.labelled.Connection.{Connection}
-use Rattle.radio_floor.specs.declared.labelled.Connection.TheVariants.{Client, Relay}
-use Rattle.radio_floor.specs.ScriptState.{ScriptState, Performed, AsksOn, ComesTo, ComesToClient, ComesToRelay, IsPerformed, on_connection, connection_of}
-use Rattle.radio_floor.specs.ScriptState.{opening_script, opens_connection, connects, relay_named, closes, exchanges, for_new_label, pulled_on}
+use Rattle.radio_script.specs.declared.delivery.Delivery.TheVariants.{Clock as ClockIs}
+use Rattle.radio_script.specs.declared.delivery.Input.TheVariants.{Title as Named}
+use Rattle.radio_floor.specs.ScriptEvents.{Nothing as NoEvents, Exchanges}
 use Rattle.radio_settings_values.specs.declared.settings.RelaySetting.{RelaySetting}
-use Rattle.radio_relay.specs.Pulling.{Pulling, event_of}
-use Rattle.radio_relay.specs.Items.{items_of}
-use Rattle.radio_events.specs.declared.state.Ending.TheVariants.{Done}
-use Rattle.std.specs.Option.{option_map}
 use Rattle.radio_floor.proofs.PullEventLemmas.{LeadBy, PullLeads, asks_lead, goes_lead, one_more, takes_lead}
-use Rattle.radio_floor.specs.Transcript.{conduct, IsTranscriptOf}
 
 -- a reading of a connection's bytes belongs to its client still
 module _ (conversation : Conversation) where

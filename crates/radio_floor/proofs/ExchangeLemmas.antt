@@ -1,17 +1,8 @@
 -- the result of a core's exchanges, for each state that it represents
 use Rattle.std.proofs.Common.{◌≡◌, ℕ, Bool, true, false, List, [], ◌∷◌, refl, ap, sym, subst, ◌∙◌}
-use Rattle.radio_events.specs.declared.event.Event.{Event}
-use Rattle.radio_events.specs.declared.reply.Reply.{Reply}
-use Rattle.radio_parts_station.specs.World.{World}
-use Rattle.radio_core.specs.Represents.{Represents, core_steps}
-use Rattle.radio_parts.specs.Step.{reply_to, world_after}
-use Rattle.radio_session.specs.declared.session.Says.{Says}
-use Rattle.radio_events.specs.declared.state.State.{State}
-use Rattle.radio_events.specs.declared.state.State.TheVariants.{Running, Shut}
-use Rattle.radio_session.specs.Saying.{Said, said}
-use Rattle.radio_session.specs.Exchanges.{Exchange, prefixed, is_leave, LeavesAfter, GoesOn, Exchanges}
-use Rattle.radio_floor.specs.Exchanges.{WorldExchange, ExchangesAs, exchanged, left_after, then_exchanged}
-use Rattle.radio_floor.specs.ExchangeLaws.{CoresExchangeAsTheirStates}
+use Rattle.radio_floor.proofs.Words.{Event, Reply, World, Represents, core_steps, reply_to, world_after, Says, State, Running, Shut, Said, said, Exchange, prefixed, is_leave, LeavesAfter, Exchanges, WorldExchange}
+use Rattle.radio_floor.proofs.Words.{ExchangesAs, exchanged, left_after, then_exchanged, CoresExchangeAsTheirStates}
+use Rattle.radio_session.specs.Exchanges.{GoesOn}
 
 left_by : (w mid core' : World) (id : ℕ) (b : Bool) (event : Event) → is_leave event ≡ b → Represents mid w → LeavesAfter core_steps id b mid core'
     → Represents core' (left_after w id event)

@@ -1,19 +1,10 @@
 -- The lines of a delivery show the last word of its connection.
 use Rattle.std.proofs.Common.{◌≡◌, ℕ, List, Some, refl, ap, sym, subst, ◌∙◌}
-use Rattle.radio_addr.specs.declared.peer.Peer.{Peer}
-use Rattle.radio_answers.specs.declared.web_answers.WebAnswers.{WebAnswers}
-use Rattle.radio_events.specs.declared.event.Event.{Event}
-use Rattle.radio_events.specs.declared.event.Event.TheVariants.{Arrive}
-use Rattle.radio_events.specs.declared.reply.Reply.{Reply}
-use Rattle.radio_parts.specs.Step.{reply_to, world_after}
+use Rattle.radio_floor.proofs.Words.{Peer, WebAnswers, Event, Arrive, Reply, reply_to, world_after, State, Conversation, asking, said, WorldExchange, then_exchanged, exchanged, ScriptState, opens_connection}
+use Rattle.radio_floor.proofs.Words.{written_lines}
 use Rattle.radio_script.specs.TranscriptLines.{answer_lines}
-use Rattle.radio_events.specs.declared.state.State.{State}
 use Rattle.radio_events.specs.Endings.{ending_word}
-use Rattle.radio_session.specs.Conversation.{Conversation, asking}
-use Rattle.radio_session.specs.Saying.{said}
-use Rattle.radio_floor.specs.Exchanges.{WorldExchange, then_exchanged, exchanged}
 use Rattle.radio_session.specs.LastWords.{EndsWith, DenialsNameTheirRule, DoneCommandsAreAnswered, FaultyBodiesAreSilent, FinishesAreSilent, RefusalsNameTheirRule, RulesWithoutStatusAreSilent, WholeBodiesAreDone}
-use Rattle.radio_floor.specs.ScriptState.{ScriptState, opens_connection, written_lines}
 use Rattle.radio_floor.specs.LastWords.{ShutsWith, CommandsAreTold, DenialsAreTold, DeniedArrivalsAreTold, FaultyBodiesAreTold, FinishesAreTold, RefusalsAreTold, WholeBodiesAreTold}
 
 abbrev lines_of : ℕ → WorldExchange → List ℕ

@@ -12,3 +12,4 @@ mod OneTranscript
 mod LastWordLemmas
 mod PullEventLemmas
 mod EventLemmas
+mod Words

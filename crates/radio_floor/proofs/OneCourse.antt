@@ -1,19 +1,11 @@
 -- Each input of a pull has one result.
 use Rattle.std.proofs.Common.{◌≡◌, ℕ, List, [], ◌∷◌, ◌++◌, Option, None, Some, sym, ap, subst, ◌∙◌}
-use Rattle.radio_events.specs.declared.event.Event.{Event}
-use Rattle.radio_parts_station.specs.World.{World}
-use Rattle.radio_parts.specs.Step.{Step}
-use Rattle.radio_relay.specs.declared.items.PullItem.{PullItem}
+use Rattle.radio_floor.proofs.Words.{Event, World, Step, PullItem, items_of, GoesOn, IsPulledAt, Pulled, Stops, State, Running, Shut, Pulling, NumberedState, state_after_reply, event_for, Asks, BringsItems, ComesOf}
+use Rattle.radio_floor.proofs.Words.{Follows, GoesDownIfShut, Onwards, AskingIsOne, GoingDownIsOne, TakingIsOne}
 use Rattle.radio_relay.specs.declared.pull.PullStage.{PullStage}
 use Rattle.radio_relay.specs.declared.pull.PullStage.TheVariants.{Head, Behind, Over}
 use Rattle.radio_relay.specs.Cuts.{PullingIsOne}
-use Rattle.radio_relay.specs.Items.{items_of}
-use Rattle.radio_relay.specs.Pulled.{GoesOn, IsPulledAt, Pulled, PullProgress as AnswerStanding, Stops}
-use Rattle.radio_events.specs.declared.state.State.{State}
-use Rattle.radio_events.specs.declared.state.State.TheVariants.{Running, Shut}
-use Rattle.radio_relay.specs.Pulling.{Pulling, NumberedState, state_after_reply, event_for}
-use Rattle.radio_relay.specs.Course.{Asks, BringsItems, ComesOf, Follows, GoesDownIfShut, Onwards}
-use Rattle.radio_floor.specs.Pulls.{AskingIsOne, GoingDownIsOne, TakingIsOne}
+use Rattle.radio_relay.specs.Pulled.{PullProgress as AnswerStanding}
 
 pub going_down_is_one : GoingDownIsOne
 going_down_is_one None w a b g h = g ∙ sym h

@@ -1,25 +1,9 @@
 -- Each delivery has one result.
 use Rattle.std.proofs.Common.{◌≡◌, ℕ, Option, None, Some, ap, sym, ◌∙◌}
-use Rattle.radio_script.specs.declared.delivery.Delivery.{Delivery}
-use Rattle.radio_script.specs.declared.delivery.Delivery.TheVariants.{Open, Pull, To, Clock}
-use Rattle.radio_script.specs.declared.delivery.Input.{Input}
-use Rattle.radio_script.specs.declared.delivery.Input.TheVariants.{Data, Room, Title, End}
-use Rattle.radio_answers.specs.declared.web_answers.WebAnswers.{WebAnswers}
-use Rattle.radio_session.specs.Conversation.{Conversation}
-use Rattle.radio_session.specs.Hearing.{EventReading}
+use Rattle.radio_floor.proofs.Words.{Delivery, Open, Pull, To, Clock, Input, Data, Room, Title, End, WebAnswers, Conversation, EventReading, State, Shut, Done, World, Event, Pulling, NumberedState, AskingIsOne}
+use Rattle.radio_floor.proofs.Words.{GoingDownIsOne, TakingIsOne, Connection, Client, Relay, ScriptState, Performed, AsksOn, ComesTo, ComesToClient, ComesToRelay, IsPerformed, on_connection, connection_of, exchanges}
+use Rattle.radio_floor.proofs.Words.{pulled_on, conduct}
 use Rattle.radio_session.specs.Laws.{HearingIsOne}
-use Rattle.radio_events.specs.declared.state.State.{State}
-use Rattle.radio_events.specs.declared.state.State.TheVariants.{Shut}
-use Rattle.radio_events.specs.declared.state.Ending.TheVariants.{Done}
-use Rattle.radio_parts_station.specs.World.{World}
-use Rattle.radio_events.specs.declared.event.Event.{Event}
-use Rattle.radio_relay.specs.Pulling.{Pulling, NumberedState}
-use Rattle.radio_floor.specs.Pulls.{AskingIsOne, GoingDownIsOne, TakingIsOne}
-use Rattle.radio_floor.specs.declared.labelled.Connection.{Connection}
-use Rattle.radio_floor.specs.declared.labelled.Connection.TheVariants.{Client, Relay}
-use Rattle.radio_floor.specs.ScriptState.{ScriptState, Performed, AsksOn, ComesTo, ComesToClient, ComesToRelay, IsPerformed, on_connection, connection_of}
-use Rattle.radio_floor.specs.ScriptState.{exchanges, pulled_on}
-use Rattle.radio_floor.specs.Transcript.{conduct}
 use Rattle.radio_script.specs.Laws.{IsDetermined}
 
 -- if a connection has one result, so has its label

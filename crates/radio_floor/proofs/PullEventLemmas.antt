@@ -1,22 +1,10 @@
 -- An input on a relay's connection yields events.
 use Rattle.std.proofs.Common.{◌≡◌, ℕ, zero, List, [], ◌∷◌, Option, None, Some, inl, inr, refl, sym, ap, subst, ◌∙◌}
-use Rattle.std.specs.Prelude.{map}
-use Rattle.std.specs.Option.{option_map}
-use Rattle.radio_events.specs.declared.event.Event.{Event}
-use Rattle.radio_events.specs.declared.event.Event.TheVariants.{RelayDown}
-use Rattle.radio_events.specs.declared.reply.Reply.{Reply}
+use Rattle.radio_floor.proofs.Words.{map, option_map, Event, RelayDown, Reply, world_after_all, Step, world_after, World, PullItem, GoesOn, Stops, State, Running, Shut, Pulling, NumberedState, state_after_reply}
+use Rattle.radio_floor.proofs.Words.{event_of, Asks, AsksIf, BringsItems, ComesOf, Follows, GoesDown, GoesDownIfShut, Onwards, ComeAbout, MayHave}
 use Rattle.radio_events.specs.declared.reply.Reply.TheVariants.{Arrived, Feeding, Seated, Drawn, Noted, Text, Deny, Finished, Stray}
-use Rattle.radio_core.specs.Run.{world_after_all}
-use Rattle.radio_parts.specs.Step.{Step, world_after}
-use Rattle.radio_parts_station.specs.World.{World}
-use Rattle.radio_relay.specs.declared.items.PullItem.{PullItem}
 use Rattle.radio_relay.specs.declared.items.PullItem.TheVariants.{Up, Sound, Title as Named}
-use Rattle.radio_relay.specs.Pulled.{GoesOn, PullProgress as AnswerStanding, Stops}
-use Rattle.radio_events.specs.declared.state.State.{State}
-use Rattle.radio_events.specs.declared.state.State.TheVariants.{Running, Shut}
-use Rattle.radio_relay.specs.Pulling.{Pulling, NumberedState, state_after_reply, event_of}
-use Rattle.radio_relay.specs.Course.{Asks, AsksIf, BringsItems, ComesOf, Follows, GoesDown, GoesDownIfShut, Onwards}
-use Rattle.radio_floor.specs.ScriptEvents.{ComeAbout, MayHave}
+use Rattle.radio_relay.specs.Pulled.{PullProgress as AnswerStanding}
 
 -- of what is asked these events happen, and they lead from the one state to the other
 abbrev pub LeadBy : World → Event → List Event → World → Type 0

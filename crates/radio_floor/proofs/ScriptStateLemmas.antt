@@ -1,13 +1,5 @@
 use Rattle.std.proofs.Common.{◌≡◌, ℕ, false, List, ◌++◌, Option, None, Some, is_some, Result, Ok, Err, sym, subst, OnOk}
-use Rattle.radio_parts_station.specs.World.{World}
-use Rattle.radio_script.specs.declared.delivery.Delivery.{Delivery}
-use Rattle.radio_script.specs.declared.faults.PerformFault.{PerformFault}
-use Rattle.radio_script.specs.declared.faults.PerformFault.TheVariants.{Label}
-use Rattle.radio_answers.specs.declared.web_answers.WebAnswers.{WebAnswers}
-use Rattle.radio_floor.specs.declared.labelled.Connection.{Connection}
-use Rattle.radio_floor.specs.declared.labelled.Labelled.{Labelled}
-use Rattle.radio_floor.specs.ScriptState.{ScriptState, Performed, connection_of, for_new_label}
-use Rattle.radio_floor.specs.Performing.{Performs, PerformsAs}
+use Rattle.radio_floor.proofs.Words.{World, Delivery, PerformFault, Label, WebAnswers, Connection, Labelled, ScriptState, Performed, connection_of, for_new_label, Performs, PerformsAs}
 
 -- a new label is opened
 pub new-label : (state : ScriptState) (label : ℕ) (opened done : Performed) → false ≡ is_some (connection_of state.connections label) → opened ≡ done

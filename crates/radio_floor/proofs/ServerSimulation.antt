@@ -1,20 +1,9 @@
 -- The server does what the state does, for each state that its core represents.
 use Rattle.std.proofs.Common.{◌≡◌, ℕ, List, [], Option, Result, refl, sym, ap, subst, ◌∙◌}
-use Rattle.radio_parts_station.specs.World.{World, opening}
-use Rattle.radio_core.specs.Represents.{Represents}
-use Rattle.radio_settings_values.specs.declared.settings.Settings.{Settings}
-use Rattle.radio_access.specs.Lists.{Lists}
-use Rattle.radio_script.specs.declared.delivery.Delivery.{Delivery}
+use Rattle.radio_floor.proofs.Words.{World, opening, Represents, Settings, Lists, Delivery, WebAnswers, ScriptState, opening_script, script_state_of, Performs, Plays, Conduct, Runs, conduct, IsTranscriptOf, PlaysScript}
+use Rattle.radio_floor.proofs.Words.{runs, plays}
 use Rattle.radio_floor.specs.declared.script_server.ScriptServer.{ScriptServer}
-use Rattle.radio_answers.specs.declared.web_answers.WebAnswers.{WebAnswers}
 use Rattle.radio_script.specs.declared.faults.PlayFault.{PlayFault}
-use Rattle.radio_floor.specs.ScriptState.{ScriptState, opening_script}
-use Rattle.radio_floor.specs.ScriptServer.{script_state_of}
-use Rattle.radio_floor.specs.Performing.{Performs}
-use Rattle.radio_script.specs.Plays.{Plays}
-use Rattle.radio_script.specs.Runs.{Conduct, Runs}
-use Rattle.radio_floor.specs.Transcript.{conduct, IsTranscriptOf, PlaysScript}
-use Rattle.radio_script.proofs.SimulationLemmas.{runs, plays}
 
 -- what the server does
 abbrev pub server_conduct : Conduct ScriptServer

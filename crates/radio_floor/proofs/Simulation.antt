@@ -1,20 +1,9 @@
 -- Two servers that represent the same state have the same results of a pull.
 use Rattle.std.proofs.Common.{◌≡◌, ℕ, List, [], ◌∷◌, Option, None, Some, refl, sym, subst}
-use Rattle.radio_events.specs.declared.event.Event.{Event}
-use Rattle.radio_events.specs.declared.event.Event.TheVariants.{RelayDown}
-use Rattle.radio_events.specs.declared.reply.Reply.{Reply}
-use Rattle.radio_parts_station.specs.World.{World}
-use Rattle.radio_core.specs.Represents.{Represents, core_steps}
-use Rattle.radio_parts.specs.Step.{Step}
-use Rattle.radio_relay.specs.declared.items.PullItem.{PullItem}
-use Rattle.radio_relay.specs.Items.{items_of}
-use Rattle.radio_relay.specs.Pulled.{GoesOn, PullProgress as AnswerStanding, Stops}
-use Rattle.radio_events.specs.declared.state.State.{State}
-use Rattle.radio_events.specs.declared.state.State.TheVariants.{Running, Shut}
+use Rattle.radio_floor.proofs.Words.{Event, RelayDown, Reply, World, Represents, core_steps, Step, PullItem, items_of, GoesOn, Stops, State, Running, Shut, Pulling, NumberedState, event_for, Asks, AsksIf, BringsItems}
+use Rattle.radio_floor.proofs.Words.{ComesOf, Follows, GoesDown, GoesDownIfShut, Onwards, Takes, CoresAskAsTheirStates, CoresGoDownAsTheirStates, CoresTakeAsTheirStates}
+use Rattle.radio_relay.specs.Pulled.{PullProgress as AnswerStanding}
 use Rattle.radio_events.specs.Servers.{Steps}
-use Rattle.radio_relay.specs.Pulling.{Pulling, NumberedState, event_for}
-use Rattle.radio_relay.specs.Course.{Asks, AsksIf, BringsItems, ComesOf, Follows, GoesDown, GoesDownIfShut, Onwards, Takes}
-use Rattle.radio_floor.specs.Pulls.{CoresAskAsTheirStates, CoresGoDownAsTheirStates, CoresTakeAsTheirStates}
 
 module _ {S T : Type 0} (steps : Steps S) (others : Steps T) (Same : S → T → Type 0)
     (does : (s s' : S) (t : T) (event : Event) (reply : Reply) → Same s t → steps s event reply s' → (t' : T) × Same s' t' × others t event reply t') where

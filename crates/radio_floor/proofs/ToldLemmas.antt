@@ -1,14 +1,7 @@
 -- what goes out for events of the server
 use Rattle.std.proofs.Common.{◌≡◌, ℕ, List, [], ◌∷◌, ◌++◌, refl, ap, sym, append-nil}
-use Rattle.radio_events.specs.declared.event.Event.{Event}
-use Rattle.radio_parts_station.specs.World.{World}
-use Rattle.radio_parts.specs.Step.{reply_to, world_after}
-use Rattle.radio_events.specs.declared.state.State.{State}
-use Rattle.radio_events.specs.declared.state.State.TheVariants.{Running, Shut}
-use Rattle.radio_session.specs.Saying.{Said, said}
+use Rattle.radio_floor.proofs.Words.{Event, World, reply_to, world_after, State, Running, Shut, Said, said, WorldExchange, exchanged, replies_to, then_exchanged, ExchangesTellReplies}
 use Rattle.radio_session.specs.Told.{told, while_open}
-use Rattle.radio_floor.specs.Exchanges.{WorldExchange, exchanged, replies_to, then_exchanged}
-use Rattle.radio_floor.specs.ExchangeLaws.{ExchangesTellReplies}
 
 -- what goes out for one event, and what for the others
 goes_out : (w : World) (id : ℕ) (event : Event) (here : Said) (state : State) (others : WorldExchange) (later : List ℕ)

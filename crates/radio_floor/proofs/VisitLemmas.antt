@@ -1,22 +1,8 @@
 -- The result of a delivery for a label, from the result of the visit of its row.
 use Rattle.std.proofs.Common.{◌≡◌, ℕ, List, [], ◌++◌, Option, None, Some, Result, Ok, Err, refl, sym, ap, subst, ◌∙◌}
-use Rattle.std.specs.Prelude.{find, MatchResult}
-use Rattle.std.specs.Option.{option_map}
-use Rattle.radio_parts_station.specs.World.{World}
-use Rattle.radio_core.specs.Represents.{Represents}
-use Rattle.radio_script.specs.declared.delivery.Delivery.{Delivery}
-use Rattle.radio_script.specs.declared.delivery.Input.{Input}
-use Rattle.radio_script.specs.declared.faults.PerformFault.{PerformFault}
-use Rattle.radio_script.specs.declared.faults.PerformFault.TheVariants.{OutOfMemory}
+use Rattle.radio_floor.proofs.Words.{find, MatchResult, option_map, World, Represents, Delivery, Input, PerformFault, OutOfMemory, update_first, WebAnswers, DeliveryAnswer, Connection, Labelled, Performs, PerformsAs}
+use Rattle.radio_floor.proofs.Words.{Performed, ComesTo, for_label, has_label, holding, on_connection, written_lines, with_connection, AnswersOn, AnswersUnder, answered_under, performed_as, script_state_of}
 use Rattle.radio_tables.proofs.FindLaws.{changed_alike, unchanged}
-use Rattle.radio_tables.specs.Lists.{update_first}
-use Rattle.radio_answers.specs.declared.web_answers.WebAnswers.{WebAnswers}
-use Rattle.radio_floor.specs.declared.handler.DeliveryAnswer.{DeliveryAnswer}
-use Rattle.radio_floor.specs.declared.labelled.Connection.{Connection}
-use Rattle.radio_floor.specs.declared.labelled.Labelled.{Labelled}
-use Rattle.radio_floor.specs.Performing.{Performs, PerformsAs}
-use Rattle.radio_floor.specs.ScriptState.{Performed, ComesTo, for_label, has_label, holding, on_connection, written_lines, with_connection}
-use Rattle.radio_floor.specs.ScriptServer.{AnswersOn, AnswersUnder, answered_under, performed_as, script_state_of}
 
 module _ (label : ℕ) (input : Input) (connections connections' : List Labelled) where
   abbrev pub Comes : World → Performed → Type 0

@@ -1,6 +1,6 @@
 -- What holds of the devices of a played script, weakened.
 use Rattle.std.proofs.Common.{ℕ, List, Option, None, Some}
-use Rattle.radio_script.specs.Plays.{IfKnown, Writes}
+use Rattle.radio_floor.proofs.Words.{IfKnown, Writes}
 
 -- what holds of known bytes may be weakened
 pub known-weaker : (old new : Option (List ℕ)) (P Q : List ℕ → List ℕ → Type 0) → ((script left : List ℕ) → P script left → Q script left) → IfKnown old new P

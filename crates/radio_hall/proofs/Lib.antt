@@ -3,3 +3,4 @@ mod Twins
 mod Placed
 mod Once
 mod Weaving
+mod Words

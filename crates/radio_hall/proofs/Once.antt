@@ -1,17 +1,6 @@
 -- No two entries of a server's lists have one place.
 use Rattle.std.proofs.Common.{◌≡◌, ◌⊎◌, inl, inr, ℕ, ◌+◌, ◌≤◌, ◌==◌, Bool, true, false, ◌&&◌, List, [], ◌∷◌, Option, cond, refl, arith}
-use Rattle.std.specs.Prelude.{if◌then◌else◌}
-use Rattle.std.specs.Option.{is_some}
-use Rattle.std.proofs.lemmas.Bool.Decides.{nat_tests}
-use Rattle.std.proofs.lemmas.List.Sums.{sum_by-append, sum_by-cons}
-use Rattle.radio_events.specs.declared.entry.Entry.{Entry}
-use Rattle.radio_chronicle.specs.declared.line.ControlLine.{ControlLine}
-use Rattle.radio_chronicle.specs.declared.stamp.Stamp.{Stamp}
-use Rattle.radio_chronicle.specs.Lines.{line_entry}
-use Rattle.radio_chronicle.specs.Stamps.{stamp}
-use Rattle.radio_parts_mount.specs.declared.item.MountItem.{MountItem}
-use Rattle.radio_parts_mount.specs.Items.{own_entry}
-use Rattle.radio_hall.specs.Settling.{IsEachOnce, all_places, own_places, places_of, times}
+use Rattle.radio_hall.proofs.Words.{if◌then◌else◌, is_some, nat_tests, sum_by-append, sum_by-cons, Entry, ControlLine, Stamp, line_entry, stamp, MountItem, own_entry, IsEachOnce, all_places, own_places, places_of, times}
 use Rattle.radio_hall.proofs.Twins.{one_at}
 
 -- of the places of one list, behind so many of them, one is there so often

@@ -1,20 +1,10 @@
 -- A merge takes at each place of its order the entry that is there.
 use Rattle.std.proofs.Common.{◌≡◌, ℕ, ◌+◌, ◌-◌, ◌==◌, Bool, false, List, [], ◌∷◌, ◌++◌, Option, Some, length, length-append}
 use Rattle.std.proofs.Common.{refl, sym, ap, ◌∙◌, append_assoc, arith}
-use Rattle.std.specs.Prelude.{if◌then◌else◌, slice_get}
-use Rattle.std.specs.Option.{option_and_then}
-use Rattle.std.proofs.lemmas.Bool.Decides.{nat_tests}
-use Rattle.radio_events.specs.declared.entry.Entry.{Entry}
-use Rattle.radio_chronicle.specs.declared.line.ControlLine.{ControlLine}
+use Rattle.radio_hall.proofs.Words.{if◌then◌else◌, slice_get, option_and_then, nat_tests, Entry, ControlLine, Stamp, line_entry, stamp, MountItem, own_entry, IsNext, Merged, PastCuts, Positions, Begins, LeavesOut}
+use Rattle.radio_hall.proofs.Words.{TakesOwn, TakesControl, entry_at, own_at}
 use Rattle.radio_chronicle.specs.declared.line.ControlLine.TheVariants.{Cut, Made}
-use Rattle.radio_chronicle.specs.declared.stamp.Stamp.{Stamp}
-use Rattle.radio_chronicle.specs.Lines.{line_entry}
-use Rattle.radio_chronicle.specs.Stamps.{stamp}
-use Rattle.radio_parts_mount.specs.declared.item.MountItem.{MountItem}
-use Rattle.radio_parts_mount.specs.Items.{own_entry}
-use Rattle.radio_merge.specs.Merged.{IsNext, Merged, PastCuts, Positions, Begins, LeavesOut, TakesOwn, TakesControl}
 use Rattle.radio_merge.proofs.Covering.{line_at}
-use Rattle.radio_hall.specs.Settling.{entry_at, own_at}
 
 module _ (control : List ControlLine) (mounts : List (List MountItem)) where
   -- each of these entries is at its place

@@ -2,21 +2,12 @@
 use Rattle.std.proofs.Common.{◌≡◌, Bool, true, ℕ, ◌+◌, ◌<◌, ◌≤◌, ◌-◌, ◌==◌, ◌&&◌, List, [], ◌∷◌, ◌++◌, All, cond, length}
 use Rattle.std.proofs.Common.{inl, inr, get_or, take, map, sum_by, Vec, Global, refl, sym, ap, subst, ◌∙◌, arith, append-nil}
 use Rattle.std.proofs.lemmas.List.{length-map}
-use Rattle.std.proofs.lemmas.Bool.Decides.{nat_tests}
+use Rattle.radio_hall.proofs.Words.{nat_tests, All-cons, All-head, All-map, All-nil, All-tail, sum_by_more, sum_by-take-le, World, Stamp, stamp, ReceiptOf, MountItem, IsSubsequence, ControlLine, AllRise, AllStand}
+use Rattle.radio_hall.proofs.Words.{AreMerged, IsCounted, IsEachOnce, Shows, all_places, all_stamps, is_same_place, stamps, times}
 use Rattle.std.proofs.lemmas.List.{map-append, take_more}
-use Rattle.std.proofs.lemmas.List.Elements.{All-cons, All-head, All-map, All-nil, All-tail}
-use Rattle.std.proofs.lemmas.List.Sums.{sum_by_more, sum_by-take-le}
 use Rattle.std.proofs.lemmas.List.Concat.{flat_map-append, length-flat_map}
 use Rattle.std.proofs.Math.Path.{fun_ext}
-use Rattle.radio_parts_station.specs.World.{World}
-use Rattle.radio_chronicle.specs.declared.stamp.Stamp.{Stamp}
-use Rattle.radio_chronicle.specs.Stamps.{stamp}
-use Rattle.radio_book.specs.Receipts.{ReceiptOf}
-use Rattle.radio_parts_mount.specs.declared.item.MountItem.{MountItem}
-use Rattle.radio_merge.specs.Merged.{IsSubsequence}
-use Rattle.radio_chronicle.specs.declared.line.ControlLine.{ControlLine}
 use Rattle.radio_hall.specs.declared.fault.SettleFault.{SettleFault}
-use Rattle.radio_hall.specs.Settling.{AllRise, AllStand, AreMerged, IsCounted, IsEachOnce, Shows, all_places, all_stamps, is_same_place, stamps, times}
 
 -- the places of one pass more
 pub stamps_more : (passes : List (List ReceiptOf)) (i : ℕ) (d : List ReceiptOf) (before after : List Stamp) → i < length passes

@@ -1,15 +1,9 @@
 -- Sorted places of which no two neighbours are equal have none twice.
 use Rattle.std.proofs.Common.{◌≡◌, ◌≢◌, ◌⊎◌, inl, inr, Bool, true, false, ℕ, ◌+◌, ◌<◌, ◌≤◌, ◌==◌, ◌&&◌, List, [], ◌∷◌, cond, length}
 use Rattle.std.proofs.Common.{get_or, nat_lt, suc, subst, refl, ap, ◌∙◌, arith}
-use Rattle.std.proofs.lemmas.Bool.Decides.{nat_tests}
-use Rattle.std.proofs.lemmas.List.Sums.{sum_by-cons}
-use Rattle.std.proofs.lemmas.List.Sorted.{sum_by-IsPermutation}
-use Rattle.std.specs.List.Sorted.{IsPermutation, IsSorted}
+use Rattle.radio_hall.proofs.Words.{nat_tests, sum_by-cons, sum_by-IsPermutation, IsPermutation, IsSorted, Stamp, stamp, HasNoTwins, IsEachOnce, is_same_place, place_order, times}
 use Rattle.std.specs.Ordering.{is_lt, ordering_then}
 use Rattle.std.specs.declared.cmp.Ordering.TheVariants.{Less, Equal, Greater}
-use Rattle.radio_chronicle.specs.declared.stamp.Stamp.{Stamp}
-use Rattle.radio_chronicle.specs.Stamps.{stamp}
-use Rattle.radio_hall.specs.Settling.{HasNoTwins, IsEachOnce, is_same_place, place_order, times}
 
 -- before in the order
 abbrev IsBelow : Stamp → Stamp → Type 0

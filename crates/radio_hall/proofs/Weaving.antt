@@ -1,18 +1,9 @@
 -- A settled history is woven of the entries of all passes.
 use Rattle.std.proofs.Common.{◌≡◌, inl, inr, ◌+◌, ◌≤◌, ◌==◌, ◌&&◌, Bool, true, List, [], ◌∷◌, All, cond, length, map, sum_by}
 use Rattle.std.proofs.Common.{refl, sym, ap, subst, ◌∙◌, arith}
-use Rattle.std.proofs.lemmas.Bool.Decides.{nat_tests}
-use Rattle.std.proofs.lemmas.List.Elements.{All-cons, All-head, All-nil, All-tail}
-use Rattle.std.proofs.lemmas.List.Sorted.{sum_by-IsPermutation}
-use Rattle.std.proofs.lemmas.List.Sums.{sum_by-append, sum_by-cons}
+use Rattle.radio_hall.proofs.Words.{nat_tests, All-cons, All-head, All-nil, All-tail, sum_by-IsPermutation, sum_by-append, sum_by-cons, Entry, ControlLine, Stamp, MountItem, receipt_entry, ReceiptOf, IsSubsequence}
+use Rattle.radio_hall.proofs.Words.{IsEachOnce, StandsIn, all_places, all_stamps, entry_at, stamps, times}
 use Rattle.std.proofs.lemmas.Option.{same_Some}
-use Rattle.radio_events.specs.declared.entry.Entry.{Entry}
-use Rattle.radio_chronicle.specs.declared.line.ControlLine.{ControlLine}
-use Rattle.radio_chronicle.specs.declared.stamp.Stamp.{Stamp}
-use Rattle.radio_parts_mount.specs.declared.item.MountItem.{MountItem}
-use Rattle.radio_book.specs.Receipts.{receipt_entry, ReceiptOf}
-use Rattle.radio_merge.specs.Merged.{IsSubsequence}
-use Rattle.radio_hall.specs.Settling.{IsEachOnce, StandsIn, all_places, all_stamps, entry_at, stamps, times}
 use Rattle.radio_hall.specs.Woven.{AreWoven, IsInterleaved, SettledHistoriesAreWoven, entries_of, nothing_left, takes_one, takes_other}
 use Rattle.radio_hall.proofs.Once.{places_are_once}
 use Rattle.radio_hall.proofs.Placed.{ArePlaced, merge_is_placed}

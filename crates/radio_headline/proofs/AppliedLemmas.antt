@@ -1,24 +1,8 @@
 -- The applied events are those that lead on, and what is written is what is written of the replies to them.
 use Rattle.std.proofs.Common.{◌≡◌, ◌==◌, ℕ, Bool, true, false, List, [], ◌∷◌, ◌++◌, Option, None, Some, refl, sym, ap, ◌∙◌, append_assoc}
-use Rattle.std.specs.Prelude.{if◌then◌else◌, option_map}
-use Rattle.std.proofs.lemmas.List.{append-nil}
-use Rattle.radio_events.specs.declared.entry.Entry.{Entry}
-use Rattle.radio_events.specs.declared.event.Event.{Event}
-use Rattle.radio_events.specs.declared.event.Event.TheVariants.{Leave}
-use Rattle.radio_events.specs.declared.reply.Reply.{Reply}
-use Rattle.radio_events.specs.declared.reply.Reply.TheVariants.{Arrived, Feeding, Seated, Drawn, Noted, Text, Deny, Finished, Stray}
-use Rattle.radio_core.specs.Run.{world_after_all}
-use Rattle.radio_parts.specs.Step.{reply_to, world_after}
-use Rattle.radio_parts_station.specs.World.{World}
-use Rattle.radio_session.specs.declared.session.Says.{Says}
-use Rattle.radio_events.specs.declared.state.State.{State}
-use Rattle.radio_events.specs.declared.state.State.TheVariants.{Running, Shut}
-use Rattle.radio_floor.specs.Exchanges.{WorldExchange, exchanged, then_exchanged}
-use Rattle.radio_session.specs.Exchanges.{is_leave}
-use Rattle.radio_session.specs.declared.session.Closing.{Closing}
-use Rattle.radio_session.specs.Saying.{Said, counted_down, ends, last_ending, last_text, noted, one_less, said, tells}
-use Rattle.radio_session.specs.Told.{told, while_open}
-use Rattle.radio_headline.specs.Course.{and_then, applied}
+use Rattle.radio_headline.proofs.Words.{if◌then◌else◌, option_map, append-nil, Entry, Event, Leave, Reply, Arrived, Feeding, Seated, Drawn, Noted, Text, Deny, Finished, Stray, world_after_all, reply_to, world_after}
+use Rattle.radio_headline.proofs.Words.{World, Says, State, Running, Shut, WorldExchange, exchanged, then_exchanged, is_leave, Closing, Said, counted_down, ends, last_ending, last_text, noted, one_less, said, tells}
+use Rattle.radio_headline.proofs.Words.{told, while_open, and_then, applied}
 use Rattle.radio_headline.proofs.Logs.{entries, replies, Each}
 use Rattle.radio_headline.proofs.ReplyForms.{LeaveReply, WasNotThere, HadFinished, IsNoted}
 

@@ -1,46 +1,13 @@
 -- Each source of a script delivers a front of the data of its body.
 use Rattle.std.proofs.Common.{◌≡◌, inl, inr, ℕ, Bool, true, false, List, [], ◌∷◌, ◌++◌, drop, Option, None, Some, Ok, refl, sym, ap, subst, ◌∙◌, append_assoc}
-use Rattle.std.specs.Prelude.{codes, if◌then◌else◌, option_map}
-use Rattle.std.specs.List.{AllByRecursion, concat}
-use Rattle.std.specs.Str.{bytes_eq}
-use Rattle.std.proofs.lemmas.List.Concat.{flat_map-append}
-use Rattle.radio_blocks.specs.Cutting.{blocks_of}
-use Rattle.radio_settings_values.specs.declared.settings.Settings.{Settings}
-use Rattle.radio_access.specs.Lists.{Lists}
-use Rattle.radio_policy.specs.declared.rule.Rule.TheVariants.{BadMethod}
-use Rattle.radio_events.specs.declared.entry.Entry.{Entry}
-use Rattle.radio_events.specs.declared.event.Event.{Event}
-use Rattle.radio_events.specs.declared.event.Event.TheVariants.{Arrive, Source, Push, SourceEnd, Title, Listen, Draw, Command, Leave, RelayUp, RelayDown, Clock}
-use Rattle.radio_events.specs.declared.event.ListenRequest.{ListenRequest}
-use Rattle.radio_events.specs.declared.event.SourceRequest.{SourceRequest}
-use Rattle.radio_events.specs.Events.{client_in}
-use Rattle.radio_core.specs.ClientSteps.{ClientsStep}
-use Rattle.radio_core.specs.Handing.{delivered}
-use Rattle.radio_core.specs.Others.{RepliesFit}
-use Rattle.radio_core.specs.Run.{run_after}
-use Rattle.radio_parts.specs.Step.{reply_to, world_after}
-use Rattle.radio_core.specs.Totals.{AddsUp}
-use Rattle.radio_parts_station.specs.World.{World, opening}
-use Rattle.radio_heads.specs.declared.outcome.Progress.TheVariants.{Whole}
-use Rattle.radio_heads.specs.Head.{RequestParts, ShowsRequest}
-use Rattle.radio_heads.specs.Laws.{IsStableReading, HeadsLieWithin}
-use Rattle.radio_source.specs.Place.{Place, after, data_of, has_ended, fault_at}
-use Rattle.radio_session.specs.Asking.{asks_by_get, asks_to_feed, asks_to_hear, gives_command, is_for_commands, path_in}
-use Rattle.radio_session.specs.Conversation.{Conversation, asking, fresh}
-use Rattle.radio_session.specs.Framing.{is_source, framing_of, greeting_of, start_of}
-use Rattle.radio_session.specs.Hearing.{EventReading, body_closes, body_heard, get_heard, greeted, refuses, request_heard, source_heard}
-use Rattle.radio_events.specs.declared.reply.Reply.{Reply}
-use Rattle.radio_events.specs.declared.reply.Reply.TheVariants.{Deny, Feeding, Finished}
-use Rattle.radio_laws.specs.Denials.{DenialsAreThePolicys}
+use Rattle.radio_headline.proofs.Words.{codes, if◌then◌else◌, option_map, AllByRecursion, concat, bytes_eq, flat_map-append, blocks_of, Settings, Lists, BadMethod, Entry, Event, Arrive, Source, Push, SourceEnd, Title}
+use Rattle.radio_headline.proofs.Words.{Listen, Draw, Command, Leave, RelayUp, RelayDown, Clock, ListenRequest, SourceRequest, client_in, ClientsStep, delivered, RepliesFit, run_after, reply_to, world_after, AddsUp}
+use Rattle.radio_headline.proofs.Words.{World, opening, Whole, RequestParts, ShowsRequest, IsStableReading, HeadsLieWithin, Place, after, data_of, has_ended, fault_at, asks_by_get, asks_to_feed, asks_to_hear}
+use Rattle.radio_headline.proofs.Words.{gives_command, is_for_commands, path_in, Conversation, asking, fresh, is_source, framing_of, greeting_of, start_of, EventReading, body_closes, body_heard, get_heard, greeted}
+use Rattle.radio_headline.proofs.Words.{refuses, request_heard, source_heard, Reply, Deny, Feeding, Finished, DenialsAreThePolicys, Says, denial, greeting_text, said, SourceIsAnswered, append-nil, Happening, events_in}
+use Rattle.radio_headline.proofs.Words.{on, applied_entry, log_on, DeliversItsBody, IsRequest, pushed, WebAnswers}
 use Rattle.radio_session.specs.declared.session.Greeting.{Greeting}
-use Rattle.radio_session.specs.declared.session.Says.{Says}
-use Rattle.radio_answers.specs.Answers.{denial}
-use Rattle.radio_session.specs.Saying.{greeting_text, said}
-use Rattle.radio_headline.specs.Listeners.{SourceIsAnswered}
 use Rattle.radio_headline.proofs.Greetings.{greeted_says}
-use Rattle.std.proofs.lemmas.List.{append-nil}
-use Rattle.radio_headline.specs.Course.{Happening, events_in, on, applied_entry, log_on}
-use Rattle.radio_headline.specs.Sources.{DeliversItsBody, IsRequest, pushed}
 use Rattle.radio_headline.proofs.Gathered.{IsOnIt}
 use Rattle.radio_headline.proofs.Logs.{log_parted, Each, each_as, each_joined}
 use Rattle.radio_headline.proofs.AppliedLemmas.{IsLast, IsOrderly}
@@ -54,7 +21,6 @@ use Rattle.radio_headline.proofs.ListenerLemmas.{on_his}
 use Rattle.radio_headline.proofs.GetLogs.{Waited, waited, by_get, get_is_of, orderly_second, parted_at_get}
 use Rattle.radio_headline.proofs.SourceLemmas.{orderly_is_cut, Front, IsHisOrNotesNothing, NotesNothing, brings_front, delivered_gathered, given_before, no_block, noted, noted_of, nothing_noted}
 use Rattle.radio_headline.proofs.Partings.{Parted, none_there, parted}
-use Rattle.radio_answers.specs.declared.web_answers.WebAnswers.{WebAnswers}
 
 -- by this event a mount is asked for, to feed it
 abbrev IsSourcing : Event → Type 0

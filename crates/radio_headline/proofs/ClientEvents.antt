@@ -1,34 +1,8 @@
 -- The events of a client, as they are exchanged.
 use Rattle.std.proofs.Common.{◌≡◌, ◌⊎◌, inl, inr, ℕ, Bool, true, false, List, [], ◌∷◌, ◌++◌, drop, Some, Ok, refl, sym, ap, subst, ◌∙◌, append_assoc}
-use Rattle.std.specs.Prelude.{if◌then◌else◌}
-use Rattle.std.proofs.lemmas.List.{append-nil}
-use Rattle.std.proofs.lemmas.List.Concat.{flat_map-append}
-use Rattle.radio_addr.specs.declared.peer.Peer.{Peer}
-use Rattle.radio_events.specs.declared.entry.Entry.{Entry}
-use Rattle.radio_events.specs.declared.event.Event.{Event}
-use Rattle.radio_events.specs.declared.event.Event.TheVariants.{Arrive, Source, Push, SourceEnd, Title, Listen, Draw, Command, Leave, RelayUp, RelayDown, Clock}
-use Rattle.radio_events.specs.declared.reply.Reply.{Reply}
-use Rattle.radio_events.specs.declared.reply.Reply.TheVariants.{Arrived}
-use Rattle.radio_events.specs.Events.{client_in}
-use Rattle.radio_parts.specs.Step.{reply_to, world_after}
-use Rattle.radio_parts_station.specs.World.{World}
-use Rattle.radio_heads.specs.declared.outcome.Progress.TheVariants.{Whole}
-use Rattle.radio_heads.specs.Head.{ShowsRequest}
-use Rattle.radio_heads.specs.Reading.{IsReading}
-use Rattle.radio_source.specs.Place.{data_of}
-use Rattle.radio_session.specs.declared.session.Says.{Says}
-use Rattle.radio_events.specs.declared.state.State.{State}
-use Rattle.radio_events.specs.declared.state.State.TheVariants.{Running, Shut}
-use Rattle.radio_session.specs.Asking.{asks_to_feed, asks_by_get}
-use Rattle.radio_session.specs.Conversation.{Conversation, asking, saying_now}
-use Rattle.radio_floor.specs.Exchanges.{WorldExchange, exchanged, then_exchanged}
-use Rattle.radio_session.specs.Exchanges.{is_leave}
-use Rattle.radio_session.specs.Saying.{said}
-use Rattle.radio_session.specs.Told.{told}
-use Rattle.radio_floor.specs.declared.labelled.Connection.TheVariants.{Client}
-use Rattle.radio_floor.specs.ScriptState.{connection_unless}
-use Rattle.radio_headline.specs.Course.{and_then, applied, applied_entry}
-use Rattle.radio_headline.specs.Sources.{pushed, pushed_by}
+use Rattle.radio_headline.proofs.Words.{if◌then◌else◌, append-nil, flat_map-append, Peer, Entry, Event, Arrive, Source, Push, SourceEnd, Title, Listen, Draw, Command, Leave, RelayUp, RelayDown, Clock, Reply, Arrived}
+use Rattle.radio_headline.proofs.Words.{client_in, reply_to, world_after, World, Whole, ShowsRequest, IsReading, data_of, Says, State, Running, Shut, asks_to_feed, asks_by_get, Conversation, asking, saying_now}
+use Rattle.radio_headline.proofs.Words.{WorldExchange, exchanged, then_exchanged, is_leave, said, told, Client, connection_unless, and_then, applied, applied_entry, pushed, pushed_by, WebAnswers}
 use Rattle.radio_headline.proofs.Logs.{entries, replies, replies_joined, Each, each_as, each_joined}
 use Rattle.radio_headline.proofs.AppliedLemmas.{EachAsked, applied_each, applied_tell, goes_on, IsNotLast, IsOpen, IsOrderly, none_last}
 use Rattle.radio_headline.proofs.AppliedLemmas.{open_joined, said_all, said_joined, told_joined}
@@ -37,7 +11,6 @@ use Rattle.radio_headline.proofs.RunLemmas.{IsOwn}
 use Rattle.radio_headline.proofs.Connections.{arrival, events_of, IsIdleOrLeaving, IsBehindRequest, IsNoRequest, AsksForMount, ByGet, Feeds}
 use Rattle.radio_headline.proofs.Connections.{Facts, IsTold, Stage}
 use Rattle.radio_headline.proofs.Connections.{IsSo}
-use Rattle.radio_answers.specs.declared.web_answers.WebAnswers.{WebAnswers}
 
 pub events_of_entries : (w : World) (events : List Event) → events_of (entries w events) ≡ events
 events_of_entries w [] = refl

@@ -1,32 +1,8 @@
 -- The state of a client's connection after an input.
 use Rattle.std.proofs.Common.{◌≡◌, ◌⊎◌, inl, inr, ℕ, List, [], ◌∷◌, ◌++◌, drop, Some, refl, sym, ap, subst, ◌∙◌, append_assoc}
-use Rattle.std.specs.List.{concat}
-use Rattle.std.proofs.lemmas.List.{append-nil}
-use Rattle.radio_addr.specs.declared.peer.Peer.{Peer}
-use Rattle.radio_blocks.specs.Cutting.{blocks_of}
-use Rattle.radio_events.specs.declared.entry.Entry.{Entry}
-use Rattle.radio_events.specs.declared.event.Event.{Event}
-use Rattle.radio_events.specs.declared.event.Event.TheVariants.{Leave}
-use Rattle.radio_events.specs.declared.reply.Reply.{Reply}
-use Rattle.radio_events.specs.declared.reply.Reply.TheVariants.{Arrived}
-use Rattle.radio_events.specs.Events.{client_in}
-use Rattle.radio_parts.specs.Step.{reply_to}
-use Rattle.radio_parts_station.specs.World.{World}
-use Rattle.radio_heads.specs.Head.{ShowsRequest}
-use Rattle.radio_heads.specs.Laws.{IsStableReading, HeadsLieWithin}
-use Rattle.radio_heads.specs.Reading.{IsReading}
-use Rattle.radio_source.specs.Feeding.{unfed}
-use Rattle.radio_source.specs.Place.{Place, after, data_of, has_ended, fault_at}
-use Rattle.radio_session.specs.declared.session.Hears.{Hears}
-use Rattle.radio_session.specs.declared.session.Hears.TheVariants.{Body, Nothing}
-use Rattle.radio_events.specs.declared.state.State.TheVariants.{Running}
-use Rattle.radio_session.specs.Asking.{asks_to_feed, asks_by_get}
-use Rattle.radio_session.specs.Conversation.{Conversation, asking, saying_now}
-use Rattle.radio_floor.specs.Exchanges.{exchanged}
-use Rattle.radio_session.specs.Hearing.{EventReading, HearsAs, body_closes, head_heard, nothing_held}
-use Rattle.radio_session.specs.Told.{told}
-use Rattle.radio_headline.specs.Course.{applied, applied_entry}
-use Rattle.radio_headline.specs.Sources.{pushed}
+use Rattle.radio_headline.proofs.Words.{concat, append-nil, Peer, blocks_of, Entry, Event, Leave, Reply, Arrived, client_in, reply_to, World, ShowsRequest, IsStableReading, HeadsLieWithin, IsReading, unfed, Place, after}
+use Rattle.radio_headline.proofs.Words.{data_of, has_ended, fault_at, Hears, Body, Nothing, Running, asks_to_feed, asks_by_get, Conversation, asking, saying_now, exchanged, EventReading, HearsAs, body_closes, head_heard}
+use Rattle.radio_headline.proofs.Words.{nothing_held, told, applied, applied_entry, pushed, WebAnswers}
 use Rattle.radio_headline.proofs.Logs.{entries, replies, replies_joined, Each, each_joined, each_second}
 use Rattle.radio_headline.proofs.AppliedLemmas.{EachAsked, applied_each, applied_orderly, IsLast, IsNotLast, IsOrderly}
 use Rattle.radio_headline.proofs.AppliedLemmas.{all_close_nothing, leaves_silently, orderly_joined, said_all, told_joined}
@@ -39,7 +15,6 @@ use Rattle.radio_headline.proofs.ClientEvents.{IsIdleOrLeave, Pushed, PushesNoth
 use Rattle.radio_headline.proofs.HeardLemmas.{Delivers, behind_head, delivers_by, more_data, more_for_source, of_reading, read_more}
 use Rattle.radio_headline.proofs.Settling.{CameOn, logged, settled_in}
 use Rattle.radio_headline.proofs.HeadSteps.{nothing_asked, idle_at_head, head_comes}
-use Rattle.radio_answers.specs.declared.web_answers.WebAnswers.{WebAnswers}
 
 module _ (web : WebAnswers) (settled : IsStableReading ShowsRequest) (within : HeadsLieWithin ShowsRequest) (joined : (bytes : List ℕ) → concat (blocks_of bytes) ≡ bytes)
     (places : (place : Place) (first second : List ℕ) → after place (first ++ second) ≡ after (after place first) second)

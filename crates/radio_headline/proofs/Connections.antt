@@ -1,42 +1,16 @@
 -- What has come on the connection of one label, what has happened there, and what was given.
 use Rattle.std.proofs.Common.{◌≡◌, ◌⊎◌, ℕ, true, false, List, [], ◌∷◌, ◌++◌, drop, Option, None, Some, Ok}
-use Rattle.std.specs.Prelude.{map, codes, option_map}
-use Rattle.std.specs.Str.{bytes_eq}
-use Rattle.radio_addr.specs.declared.peer.Peer.{Peer}
-use Rattle.radio_events.specs.declared.entry.Entry.{Entry}
-use Rattle.radio_events.specs.declared.event.Event.{Event}
-use Rattle.radio_events.specs.declared.event.Event.TheVariants.{Arrive, Source, Push, SourceEnd, Title, Listen, Draw, Command, Leave, RelayUp, RelayDown}
-use Rattle.radio_events.specs.declared.reply.Reply.{Reply}
-use Rattle.radio_events.specs.declared.reply.Reply.TheVariants.{Arrived}
-use Rattle.radio_events.specs.Events.{client_in}
-use Rattle.radio_heads.specs.declared.outcome.Progress.TheVariants.{Whole}
-use Rattle.radio_heads.specs.Head.{RequestParts, ShowsRequest}
-use Rattle.radio_heads.specs.Reading.{IsReading}
-use Rattle.radio_source.specs.Feeding.{unfed}
-use Rattle.radio_source.specs.Place.{Place, after, data_of}
-use Rattle.radio_heads.specs.Response.{ResponseParts, ShowsResponse}
-use Rattle.radio_relay.specs.Answer.{interval_in, shown_in_response}
-use Rattle.radio_relay.specs.Laws.{sound_of_parts}
-use Rattle.radio_relay.specs.Pulled.{after_bytes, stream_parts, stream_with}
-use Rattle.radio_relay.specs.declared.pull.PullStage.TheVariants.{Head, Behind}
-use Rattle.radio_relay.specs.declared.stream.PulledStream.{PulledStream}
-use Rattle.radio_session.specs.declared.session.Hears.TheVariants.{Head as HearsHead, Body, Nothing}
-use Rattle.radio_session.specs.Asking.{asks_to_feed, asks_by_get}
-use Rattle.radio_session.specs.Conversation.{Conversation, asking}
-use Rattle.radio_session.specs.Framing.{is_source, framing_of, start_of}
-use Rattle.radio_session.specs.Told.{told}
-use Rattle.radio_relay.specs.Applied.{number_after}
-use Rattle.radio_relay.specs.Pulling.{Pulling}
-use Rattle.radio_floor.specs.declared.labelled.Connection.{Connection}
-use Rattle.radio_floor.specs.declared.labelled.Connection.TheVariants.{Client, Relay}
-use Rattle.radio_headline.specs.Sources.{pushed}
+use Rattle.radio_headline.proofs.Words.{map, codes, option_map, bytes_eq, Peer, Entry, Event, Arrive, Source, Push, SourceEnd, Title, Listen, Draw, Command, Leave, RelayUp, RelayDown, Reply, Arrived, client_in, Whole}
+use Rattle.radio_headline.proofs.Words.{RequestParts, ShowsRequest, IsReading, unfed, Place, after, data_of, ResponseParts, ShowsResponse, interval_in, shown_in_response, sound_of_parts, after_bytes, stream_parts}
+use Rattle.radio_headline.proofs.Words.{stream_with, Head, Behind, PulledStream, Body, Nothing, asks_to_feed, asks_by_get, Conversation, asking, is_source, framing_of, start_of, told, number_after, Pulling, Connection}
+use Rattle.radio_headline.proofs.Words.{Client, Relay, pushed, WebAnswers}
+use Rattle.radio_session.specs.declared.session.Hears.TheVariants.{Head as HearsHead}
 use Rattle.radio_headline.proofs.Logs.{replies, Each}
 use Rattle.radio_headline.proofs.AppliedLemmas.{said_all, IsOpen, IsNotLast, IsOrderly}
 use Rattle.radio_headline.proofs.Greetings.{Greeted}
 use Rattle.radio_headline.proofs.Relays.RelayWords.{IsCut, IsNotRefused, IsNoUp, OwnRelay}
 use Rattle.radio_headline.proofs.ReplyForms.{IsIdle}
 use Rattle.radio_headline.proofs.RunLemmas.{IsOwn, IsIdling}
-use Rattle.radio_answers.specs.declared.web_answers.WebAnswers.{WebAnswers}
 
 -- it has arrived, and has this number
 abbrev pub arrival : Peer → ℕ → Entry

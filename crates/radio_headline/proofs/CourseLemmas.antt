@@ -1,50 +1,20 @@
 -- A script's deliveries yield a course, and the state of each connection follows from what has happened on it.
 use Rattle.std.proofs.Common.{◌≡◌, ℕ, List, [], ◌∷◌, ◌++◌, Option, None, Some, refl, sym, ap, subst, ◌∙◌}
-use Rattle.std.specs.Prelude.{map}
+use Rattle.radio_headline.proofs.Words.{map, concat, append-nil, Peer, blocks_of, Settings, RelaySetting, Lists, Entry, Event, Arrive, Title, Draw, Leave, Clock, Reply, Arrived, Feeding, Seated, Drawn, Text, Deny}
+use Rattle.radio_headline.proofs.Words.{Finished, Stray, run_after, world_after_all, reply_to, world_after, World, opening, ShowsRequest, IsStableReading, HeadsLieWithin, Place, after, data_of, State, Running, Shut}
+use Rattle.radio_headline.proofs.Words.{Done, Conversation, asking, saying_now, exchanged, EventReading, said, Pulling, NumberedState, pulling_begun, AsksIf, Delivery, Open, Pull, To, Input, Data, Room, End}
+use Rattle.radio_headline.proofs.Words.{TranscriptLine, given, transcript_text, Connection, Client, Relay, Labelled, ScriptState, Performed, AsksOn, ComesTo, ComesToClient, ComesToRelay, IsPerformed, closes}
+use Rattle.radio_headline.proofs.Words.{connection_of, connection_unless, connects, exchanges, for_new_label, kept_unless, last_word, on_connection, written_lines, opens_connection, with_connection, pulled_on}
+use Rattle.radio_headline.proofs.Words.{relay_named, taken_in, ComesToNoted, Happening, Happens, HappensThere, IsAsked, and_then, applied, arrival_at_label, events_in, noting, nothing_noted, on, applied_entry, log_on}
+use Rattle.radio_headline.proofs.Words.{brought, bytes_in, pushed_by, ShowsResponse, AfterPieces, HeardInPieces, Head, WebAnswers}
 use Rattle.std.specs.Option.{option_map}
-use Rattle.std.specs.List.{concat}
-use Rattle.std.proofs.lemmas.List.{append-nil}
-use Rattle.radio_addr.specs.declared.peer.Peer.{Peer}
-use Rattle.radio_blocks.specs.Cutting.{blocks_of}
 use Rattle.radio_values.specs.Cleaning.{cleaned}
 use Rattle.radio_values.specs.Limits.{max_title}
-use Rattle.radio_settings_values.specs.declared.settings.Settings.{Settings}
-use Rattle.radio_settings_values.specs.declared.settings.RelaySetting.{RelaySetting}
-use Rattle.radio_access.specs.Lists.{Lists}
-use Rattle.radio_events.specs.declared.entry.Entry.{Entry}
-use Rattle.radio_events.specs.declared.event.Event.{Event}
-use Rattle.radio_events.specs.declared.event.Event.TheVariants.{Arrive, Title, Draw, Leave, Clock}
-use Rattle.radio_events.specs.declared.reply.Reply.{Reply}
-use Rattle.radio_events.specs.declared.reply.Reply.TheVariants.{Arrived, Feeding, Seated, Drawn, Noted as WasNoted, Text, Deny, Finished, Stray}
-use Rattle.radio_core.specs.Run.{run_after, world_after_all}
-use Rattle.radio_parts.specs.Step.{reply_to, world_after}
-use Rattle.radio_parts_station.specs.World.{World, opening}
-use Rattle.radio_heads.specs.Head.{ShowsRequest}
-use Rattle.radio_heads.specs.Laws.{IsStableReading, HeadsLieWithin}
-use Rattle.radio_source.specs.Place.{Place, after, data_of}
+use Rattle.radio_events.specs.declared.reply.Reply.TheVariants.{Noted as WasNoted}
 use Rattle.radio_relay.specs.Request.{request_text}
-use Rattle.radio_events.specs.declared.state.State.{State}
-use Rattle.radio_events.specs.declared.state.State.TheVariants.{Running, Shut}
-use Rattle.radio_events.specs.declared.state.Ending.TheVariants.{Done}
-use Rattle.radio_session.specs.Conversation.{Conversation, asking, saying_now}
-use Rattle.radio_floor.specs.Exchanges.{exchanged}
-use Rattle.radio_session.specs.Hearing.{EventReading}
-use Rattle.radio_session.specs.Saying.{said}
-use Rattle.radio_relay.specs.Pulling.{Pulling, NumberedState, pulling_begun}
-use Rattle.radio_relay.specs.Course.{AsksIf}
-use Rattle.radio_script.specs.declared.delivery.Delivery.{Delivery}
-use Rattle.radio_script.specs.declared.delivery.Delivery.TheVariants.{Open, Pull, To, Clock as ClockIs}
-use Rattle.radio_script.specs.declared.delivery.Input.{Input}
-use Rattle.radio_script.specs.declared.delivery.Input.TheVariants.{Data, Room, Title as Named, End}
-use Rattle.radio_script.specs.Given.{TranscriptLine, given, transcript_text}
-use Rattle.radio_floor.specs.declared.labelled.Connection.{Connection}
-use Rattle.radio_floor.specs.declared.labelled.Connection.TheVariants.{Client, Relay}
-use Rattle.radio_floor.specs.declared.labelled.Labelled.{Labelled}
-use Rattle.radio_floor.specs.ScriptState.{ScriptState, Performed, AsksOn, ComesTo, ComesToClient, ComesToRelay, IsPerformed, closes, connection_of, connection_unless}
-use Rattle.radio_floor.specs.ScriptState.{connects, exchanges, for_new_label, kept_unless, last_word, on_connection, written_lines, opens_connection, with_connection, pulled_on, relay_named, taken_in}
-use Rattle.radio_headline.specs.Course.{ComesToNoted, Happening, Happens, HappensThere, IsAsked, Noted, and_then, applied, arrival_at_label, events_in, noting, nothing_noted, on, applied_entry, log_on}
-use Rattle.radio_headline.specs.Scripts.{brought, bytes_in}
-use Rattle.radio_headline.specs.Sources.{pushed_by}
+use Rattle.radio_script.specs.declared.delivery.Delivery.TheVariants.{Clock as ClockIs}
+use Rattle.radio_script.specs.declared.delivery.Input.TheVariants.{Title as Named}
+use Rattle.radio_headline.specs.Course.{Noted}
 use Rattle.radio_headline.proofs.Logs.{entries, log_joined, after_joined, events_joined}
 use Rattle.radio_headline.proofs.AppliedLemmas.{applied_lead}
 use Rattle.radio_headline.proofs.Relays.RelayLogs.{asks_if_lifts, at, down_lifts}
@@ -52,12 +22,8 @@ use Rattle.radio_headline.proofs.Relays.RelayWords.{IsNoUp, OfRelay}
 use Rattle.radio_headline.proofs.Connections.{HasAskedNothing, IsClosed, IsClient, IsRelay, IsSo, AtAnswer, AtHead}
 use Rattle.radio_headline.proofs.ConnectionSteps.{data_come, idle_comes, end_comes}
 use Rattle.radio_headline.proofs.Relays.PullSteps.{asks_so, down_so, more_facts, takes_so}
-use Rattle.radio_heads.specs.Response.{ShowsResponse}
-use Rattle.radio_relay.proofs.CutLemmas.{AfterPieces, HeardInPieces}
-use Rattle.radio_relay.specs.declared.pull.PullStage.TheVariants.{Head}
 use Rattle.radio_headline.proofs.LabelLemmas.{answer, answer_here, answer_elsewhere, answer_written, opened_here, opened_elsewhere, with_here, with_elsewhere}
 use Rattle.radio_headline.proofs.Standing.{brought_joined, brought_here, brought_elsewhere, IsSo_as, Stands, nowhere_joined, Changes, then_stands}
-use Rattle.radio_answers.specs.declared.web_answers.WebAnswers.{WebAnswers}
 
 module _ (web : WebAnswers) (settings : Settings) (lists : Lists) (settled : IsStableReading ShowsRequest) (within : HeadsLieWithin ShowsRequest)
     (settled_answers : IsStableReading ShowsResponse) (within_answers : HeadsLieWithin ShowsResponse) (none_blocks : blocks_of [] ≡ []) (in_pieces : HeardInPieces)

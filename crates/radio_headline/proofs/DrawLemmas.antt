@@ -1,22 +1,9 @@
 -- The draws of a listener hold the data that it gets.
 use Rattle.std.proofs.Common.{◌≡◌, ℕ, Bool, true, false, cond, List, [], ◌∷◌, ◌++◌, refl, sym, ap, subst, ◌∙◌, append-nil, append_assoc}
-use Rattle.std.specs.Prelude.{flat_map, map}
-use Rattle.std.proofs.lemmas.List.Concat.{flat_map-append}
-use Rattle.radio_settings_values.specs.declared.settings.Settings.{Settings}
-use Rattle.radio_access.specs.Lists.{Lists}
-use Rattle.radio_events.specs.declared.event.Event.{Event}
-use Rattle.radio_events.specs.declared.reply.Reply.{Reply}
-use Rattle.radio_events.specs.declared.reply.Reply.TheVariants.{Arrived, Feeding, Seated, Drawn, Noted, Text, Deny, Finished, Stray}
-use Rattle.radio_core.specs.Handing.{data_in, is_same_number, of_client, handed, handed_at, delivered}
-use Rattle.radio_parts.specs.Step.{reply_to, world_after}
-use Rattle.radio_seats_rows.specs.Seats.{seat_of}
-use Rattle.radio_laws.specs.Stretches.{AreSlices, AreStretches, Cut, Sitting, StretchesAreCut, StretchesAreWhole, begun_sittings, cut_at_sittings, cut_behind, sittings}
-use Rattle.radio_events.specs.Events.{client_in}
-use Rattle.radio_parts_station.specs.World.{World, opening}
-use Rattle.radio_icy.specs.Weaving.{Call}
-use Rattle.radio_icy.specs.Stream.{sound_of_calls}
-use Rattle.radio_session.specs.Told.{draws_of}
-use Rattle.radio_headline.specs.Listeners.{draw_to, draws_to, DrawsAreCut, DrawsAreStretches}
+use Rattle.radio_headline.proofs.Words.{map, flat_map-append, Settings, Lists, Event, Reply, Arrived, Feeding, Seated, Drawn, Noted, Text, Deny, Finished, Stray, data_in, is_same_number, of_client, handed, handed_at}
+use Rattle.radio_headline.proofs.Words.{delivered, reply_to, world_after, seat_of, AreSlices, AreStretches, Cut, Sitting, StretchesAreCut, StretchesAreWhole, begun_sittings, cut_at_sittings, cut_behind, sittings}
+use Rattle.radio_headline.proofs.Words.{client_in, World, opening, Call, sound_of_calls, draws_of, draw_to, draws_to, DrawsAreCut, DrawsAreStretches}
+use Rattle.std.specs.Prelude.{flat_map}
 
 -- a draw holds the data of its reply, and no other reply has any
 data_drawn : (reply : Reply) → sound_of_calls (draws_of (reply ∷ [])) ≡ data_in reply

@@ -1,19 +1,9 @@
 -- A delivery whose label is at fault.
 use Rattle.std.proofs.Common.{◌≡◌, ℕ, List, [], Option, None, Some, refl, sym, ap, subst, ◌∙◌}
-use Rattle.radio_addr.specs.declared.peer.Peer.{Peer}
-use Rattle.radio_settings_values.specs.declared.settings.RelaySetting.{RelaySetting}
-use Rattle.radio_answers.specs.declared.web_answers.WebAnswers.{WebAnswers}
-use Rattle.radio_session.specs.Conversation.{Conversation}
-use Rattle.radio_relay.specs.Pulling.{Pulling}
-use Rattle.radio_script.specs.declared.delivery.Delivery.{Delivery}
-use Rattle.radio_script.specs.declared.delivery.Delivery.TheVariants.{Open, Pull, To, Clock as ClockIs}
-use Rattle.radio_script.specs.declared.delivery.Input.{Input}
-use Rattle.radio_script.specs.declared.delivery.Input.TheVariants.{Data, Room, Title as Named, End}
-use Rattle.radio_floor.specs.declared.labelled.Connection.{Connection}
-use Rattle.radio_floor.specs.declared.labelled.Connection.TheVariants.{Client, Relay}
-use Rattle.radio_floor.specs.ScriptState.{ScriptState, Performed, ComesTo, ComesToClient, ComesToRelay, IsPerformed, connection_of}
-use Rattle.radio_floor.specs.ScriptState.{connects, for_new_label, on_connection, opens_connection, relay_named}
-use Rattle.radio_headline.specs.Course.{Happens, HappensThere, arrival_at_label}
+use Rattle.radio_headline.proofs.Words.{Peer, RelaySetting, WebAnswers, Conversation, Pulling, Delivery, Open, Pull, To, Input, Data, Room, End, Connection, Client, Relay, ScriptState, Performed, ComesTo, ComesToClient}
+use Rattle.radio_headline.proofs.Words.{ComesToRelay, IsPerformed, connection_of, connects, for_new_label, on_connection, opens_connection, relay_named, Happens, HappensThere, arrival_at_label}
+use Rattle.radio_script.specs.declared.delivery.Delivery.TheVariants.{Clock as ClockIs}
+use Rattle.radio_script.specs.declared.delivery.Input.TheVariants.{Title as Named}
 
 -- a delivery is at fault: nothing happens
 module _ (web : WebAnswers) (state : ScriptState) where

@@ -1,15 +1,7 @@
 -- What a client's events bring, gathered over a course, is what the entries on its connection bring.
 use Rattle.std.proofs.Common.{◌≡◌, ◌⊎◌, inl, inr, ℕ, ◌==◌, Bool, true, false, List, [], ◌∷◌, ◌++◌, Option, None, Some, refl, ap, sym, ◌∙◌, arith}
-use Rattle.std.specs.Prelude.{flat_map, if◌then◌else◌}
-use Rattle.std.specs.List.{AllByRecursion}
-use Rattle.std.proofs.lemmas.Bool.Decides.{nat_tests}
-use Rattle.radio_events.specs.declared.entry.Entry.{Entry}
-use Rattle.radio_events.specs.declared.event.Event.{Event}
-use Rattle.radio_events.specs.Events.{client_in}
-use Rattle.radio_core.specs.Handing.{is_same_number}
-use Rattle.radio_parts.specs.Step.{world_after}
-use Rattle.radio_parts_station.specs.World.{World}
-use Rattle.radio_headline.specs.Course.{Happening, applied_entry, log_on}
+use Rattle.radio_headline.proofs.Words.{if◌then◌else◌, AllByRecursion, nat_tests, Entry, Event, client_in, is_same_number, world_after, World, Happening, applied_entry, log_on}
+use Rattle.std.specs.Prelude.{flat_map}
 use Rattle.radio_headline.proofs.Logs.{Each, itself}
 
 -- the events of the client are those on its connection

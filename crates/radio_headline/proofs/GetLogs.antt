@@ -1,28 +1,8 @@
 -- The log of a connection on which a GET was read.
 use Rattle.std.proofs.Common.{◌≡◌, ◌⊎◌, inl, inr, ℕ, Bool, true, false, List, [], ◌∷◌, ◌++◌, Option, None, Some, refl, sym, ap, subst, ◌∙◌}
-use Rattle.std.specs.Prelude.{if◌then◌else◌}
-use Rattle.std.specs.List.{AllByRecursion, flat_map}
-use Rattle.radio_policy.specs.declared.rule.Rule.{Rule}
-use Rattle.radio_events.specs.declared.entry.Entry.{Entry}
-use Rattle.radio_events.specs.declared.event.Event.{Event}
-use Rattle.radio_events.specs.declared.event.Event.TheVariants.{Arrive, Source, Push, SourceEnd, Title, Listen, Draw, Command, Leave, RelayUp, RelayDown, Clock}
-use Rattle.radio_events.specs.declared.event.ListenRequest.{ListenRequest}
-use Rattle.radio_events.specs.declared.reply.Reply.{Reply}
-use Rattle.radio_events.specs.declared.reply.Reply.TheVariants.{Arrived, Feeding, Seated, Drawn, Noted, Text, Deny, Finished, Stray}
-use Rattle.radio_events.specs.declared.reply.StreamHead.{StreamHead}
-use Rattle.radio_events.specs.Events.{client_in}
-use Rattle.radio_icy.specs.Weaving.{Call}
-use Rattle.radio_core.specs.Handing.{is_same_number}
-use Rattle.radio_parts.specs.Step.{world_after}
-use Rattle.radio_parts_station.specs.World.{World}
-use Rattle.radio_heads.specs.Head.{RequestParts}
-use Rattle.radio_session.specs.Asking.{asks_by_get, asks_to_hear, gives_command, is_for_commands, path_in}
-use Rattle.radio_session.specs.Conversation.{asking}
-use Rattle.radio_session.specs.Draws.{draw}
-use Rattle.radio_session.specs.Saying.{said}
-use Rattle.radio_session.specs.Told.{AdmitNobody, draws_of, told}
-use Rattle.radio_headline.specs.Course.{Happening, events_in, on, applied_entry, log_on}
-use Rattle.radio_headline.specs.Listeners.{draws_to}
+use Rattle.radio_headline.proofs.Words.{if◌then◌else◌, AllByRecursion, flat_map, Rule, Entry, Event, Arrive, Source, Push, SourceEnd, Title, Listen, Draw, Command, Leave, RelayUp, RelayDown, Clock, ListenRequest, Reply}
+use Rattle.radio_headline.proofs.Words.{Arrived, Feeding, Seated, Drawn, Noted, Text, Deny, Finished, Stray, StreamHead, client_in, Call, is_same_number, world_after, World, RequestParts, asks_by_get, asks_to_hear}
+use Rattle.radio_headline.proofs.Words.{gives_command, is_for_commands, path_in, asking, draw, said, AdmitNobody, draws_of, told, Happening, events_in, on, applied_entry, log_on, draws_to, WebAnswers}
 use Rattle.radio_headline.proofs.Gathered.{IsOnIt, brought_to, gathered}
 use Rattle.radio_headline.proofs.Logs.{replies, Each, each_as, each_joined}
 use Rattle.radio_headline.proofs.AppliedLemmas.{IsLast, IsLeaving, IsOpen, IsOrderly, said_all}
@@ -32,7 +12,6 @@ use Rattle.radio_headline.proofs.Connections.{Facts, HasAskedNothing, HasSentGet
 use Rattle.radio_headline.proofs.ClientEvents.{idle_asks_nothing, idle_is_his}
 use Rattle.radio_headline.proofs.Relays.RelayWords.{OwnRelay, relay_asks_not}
 use Rattle.radio_headline.proofs.Partings.{none_there, parted}
-use Rattle.radio_answers.specs.declared.web_answers.WebAnswers.{WebAnswers}
 
 pub idle_or_leaving_is_his : (id : ℕ) (e : Entry) → IsIdleOrLeaving id e → client_in e.event ≡ Some id
 idle_or_leaving_is_his id e (inl h) = idle_is_his id e.event h

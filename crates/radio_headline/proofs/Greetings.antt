@@ -1,25 +1,9 @@
 -- What a source reads of its request.
 use Rattle.std.proofs.Common.{◌≡◌, ℕ, List, [], ◌∷◌, ◌++◌, Option, refl, sym, ap, ◌∙◌, append_assoc}
-use Rattle.std.proofs.lemmas.List.{append-nil}
-use Rattle.radio_events.specs.declared.entry.Entry.{Entry}
-use Rattle.radio_events.specs.declared.event.Event.{Event}
-use Rattle.radio_events.specs.declared.reply.Reply.{Reply}
-use Rattle.radio_events.specs.declared.reply.Reply.TheVariants.{Arrived}
-use Rattle.radio_parts.specs.Step.{reply_to, world_after}
-use Rattle.radio_parts_station.specs.World.{World}
-use Rattle.radio_heads.specs.Head.{RequestParts}
-use Rattle.radio_session.specs.declared.session.Closing.{Closing}
-use Rattle.radio_session.specs.declared.session.Says.{Says}
-use Rattle.radio_events.specs.declared.state.State.{State}
-use Rattle.radio_events.specs.declared.state.State.TheVariants.{Running, Shut}
-use Rattle.radio_session.specs.Conversation.{asking}
-use Rattle.radio_floor.specs.Exchanges.{WorldExchange, exchanged, then_exchanged}
-use Rattle.radio_session.specs.Framing.{greeting_of}
-use Rattle.radio_session.specs.Saying.{said}
-use Rattle.radio_session.specs.Told.{told}
+use Rattle.radio_headline.proofs.Words.{append-nil, Entry, Event, Reply, Arrived, reply_to, world_after, World, RequestParts, Closing, Says, State, Running, Shut, asking, WorldExchange, exchanged, then_exchanged}
+use Rattle.radio_headline.proofs.Words.{greeting_of, said, told, WebAnswers}
 use Rattle.radio_headline.proofs.Logs.{replies}
 use Rattle.radio_headline.proofs.AppliedLemmas.{IsLast, IsOpen, last_shuts, said_all}
-use Rattle.radio_answers.specs.declared.web_answers.WebAnswers.{WebAnswers}
 
 -- how the reply to its request is written
 abbrev pub greeted_says : (web : WebAnswers) → ℕ → List Entry → RequestParts → Option Closing → Says

@@ -1,36 +1,10 @@
 -- Inputs on a client's connection before its head is complete.
 use Rattle.std.proofs.Common.{◌≡◌, ◌⊎◌, inl, inr, ℕ, Bool, true, false, List, [], ◌∷◌, ◌++◌, drop, Some, Ok, refl, sym, ap, subst, ◌∙◌}
-use Rattle.std.specs.Prelude.{codes, if◌then◌else◌, option_map}
-use Rattle.std.specs.List.{concat}
-use Rattle.std.specs.Str.{bytes_eq}
-use Rattle.radio_addr.specs.declared.peer.Peer.{Peer}
-use Rattle.radio_blocks.specs.Cutting.{blocks_of}
-use Rattle.radio_policy.specs.declared.rule.Rule.{Rule}
-use Rattle.radio_events.specs.declared.entry.Entry.{Entry}
-use Rattle.radio_events.specs.declared.event.Event.{Event}
-use Rattle.radio_events.specs.declared.event.Event.TheVariants.{Leave}
-use Rattle.radio_events.specs.declared.reply.Reply.TheVariants.{Arrived}
-use Rattle.radio_events.specs.Events.{client_in}
-use Rattle.radio_parts.specs.Step.{reply_to}
-use Rattle.radio_parts_station.specs.World.{World}
-use Rattle.radio_heads.specs.declared.outcome.Progress.TheVariants.{Whole}
-use Rattle.radio_heads.specs.Head.{RequestParts, ShowsRequest}
-use Rattle.radio_heads.specs.Laws.{IsStableReading, HeadsLieWithin}
-use Rattle.radio_heads.specs.Reading.{IsReading}
-use Rattle.radio_source.specs.Feeding.{unfed}
-use Rattle.radio_source.specs.Place.{Place, after, data_of, has_ended, fault_at}
-use Rattle.radio_session.specs.declared.session.Hears.TheVariants.{Head, Body, Nothing}
-use Rattle.radio_events.specs.declared.state.State.TheVariants.{Running}
-use Rattle.radio_session.specs.Asking.{asks_to_feed, asks_by_get, asks_to_hear, gives_command, is_for_commands, path_in}
-use Rattle.radio_session.specs.Conversation.{Conversation, asking, saying_now}
-use Rattle.radio_floor.specs.Exchanges.{exchanged}
-use Rattle.radio_session.specs.declared.session.Says.{Says}
-use Rattle.radio_session.specs.Framing.{is_source, framing_of, greeting_of, start_of}
-use Rattle.radio_session.specs.Saying.{said}
-use Rattle.radio_session.specs.Hearing.{EventReading, body_closes, get_heard, greeted, nothing_held, refuses}
-use Rattle.radio_session.specs.Told.{told}
-use Rattle.radio_headline.specs.Course.{applied, applied_entry}
-use Rattle.radio_headline.specs.Sources.{pushed}
+use Rattle.radio_headline.proofs.Words.{codes, if◌then◌else◌, option_map, concat, bytes_eq, Peer, blocks_of, Rule, Entry, Event, Leave, Arrived, client_in, reply_to, World, Whole, RequestParts, ShowsRequest}
+use Rattle.radio_headline.proofs.Words.{IsStableReading, HeadsLieWithin, IsReading, unfed, Place, after, data_of, has_ended, fault_at, Body, Nothing, Running, asks_to_feed, asks_by_get, asks_to_hear, gives_command}
+use Rattle.radio_headline.proofs.Words.{is_for_commands, path_in, Conversation, asking, saying_now, exchanged, Says, is_source, framing_of, greeting_of, start_of, said, EventReading, body_closes, get_heard, greeted}
+use Rattle.radio_headline.proofs.Words.{nothing_held, refuses, told, applied, applied_entry, pushed, WebAnswers}
+use Rattle.radio_session.specs.declared.session.Hears.TheVariants.{Head}
 use Rattle.radio_headline.proofs.Logs.{entries, replies, Each, each_as, each_joined}
 use Rattle.radio_headline.proofs.AppliedLemmas.{EachAsked, applied_each, applied_orderly, goes_on, IsOpen, IsOrderly}
 use Rattle.radio_headline.proofs.AppliedLemmas.{orderly_joined, said_all, web_stays}
@@ -43,7 +17,6 @@ use Rattle.radio_headline.proofs.Greetings.{Greeted, ToldFirst, greeted_says, to
 use Rattle.radio_headline.proofs.ClientEvents.{First, Pushed, applied_pushed, asked_as, behind_is_his, entries_each, events_of_entries, first_of_applied, idle_asks_nothing, idle_is_his, new, still_told, told_now}
 use Rattle.radio_headline.proofs.HeardLemmas.{AGet, ASource, Delivers, HeadHeard, IsRefused, Unfinished, delivers_by}
 use Rattle.radio_headline.proofs.Settling.{CameOn, settled_in}
-use Rattle.radio_answers.specs.declared.web_answers.WebAnswers.{WebAnswers}
 
 module _ (web : WebAnswers) (settled : IsStableReading ShowsRequest) (within : HeadsLieWithin ShowsRequest) (joined : (bytes : List ℕ) → concat (blocks_of bytes) ≡ bytes)
     (places : (place : Place) (first second : List ℕ) → after place (first ++ second) ≡ after (after place first) second)

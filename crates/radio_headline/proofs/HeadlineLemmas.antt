@@ -1,28 +1,11 @@
 -- Listeners get data of the course's sources, or nothing while they wait for one.
 use Rattle.std.proofs.Common.{◌≡◌, inl, inr, ℕ, Bool, true, false, List, [], ◌∷◌, ◌++◌, Option, None, Some, refl, sym, ap, subst, ◌∙◌, append_assoc}
-use Rattle.std.specs.Prelude.{if◌then◌else◌}
-use Rattle.std.specs.List.{AllByRecursion}
-use Rattle.std.specs.Option.{option_or}
-use Rattle.radio_values.specs.declared.field.Shown.{Shown}
-use Rattle.radio_settings_values.specs.declared.settings.Settings.{Settings}
-use Rattle.radio_access.specs.Lists.{Lists}
-use Rattle.radio_events.specs.declared.event.Event.{Event}
-use Rattle.radio_events.specs.declared.event.Event.TheVariants.{Source, Listen, RelayUp}
-use Rattle.radio_events.specs.declared.event.ListenRequest.{ListenRequest}
-use Rattle.radio_events.specs.declared.reply.StreamHead.{StreamHead}
-use Rattle.radio_parts_mount.specs.Sessions.{Session}
-use Rattle.radio_core.specs.Run.{run_after, world_after_all}
-use Rattle.radio_core.specs.SessionSteps.{HasBegun, SessionsStep, KeepsSettings}
+use Rattle.radio_headline.proofs.Words.{if◌then◌else◌, AllByRecursion, option_or, Shown, Settings, Lists, Event, Source, Listen, RelayUp, ListenRequest, StreamHead, Session, run_after, world_after_all, HasBegun}
+use Rattle.radio_headline.proofs.Words.{SessionsStep, KeepsSettings, is_on_demand, shown_by_nobody, silence_at, silence_of, heard_at, World, opening, IsSeated, SeatsKeepTheirMounts, sittings, Happening, events_in, on}
+use Rattle.radio_headline.proofs.Words.{SitsWithASource, HasItsSource, IsAwaited, NobodyDelivers, RelaysDeliverTheirSound, SourcesDeliverTheirBodies}
 use Rattle.radio_parts_station.specs.StationState.{StationState}
 use Rattle.radio_parts_station.specs.Streams.{shown_for}
-use Rattle.radio_parts_station.specs.Waiting.{is_on_demand, shown_by_nobody, silence_at, silence_of, heard_at}
-use Rattle.radio_parts_station.specs.World.{World, opening}
 use Rattle.radio_parts.proofs.HeardLemmas.{heard_cases}
-use Rattle.radio_laws.specs.Admission.{IsSeated}
-use Rattle.radio_laws.specs.Stretches.{SeatsKeepTheirMounts, sittings}
-use Rattle.radio_headline.specs.Course.{Happening, events_in, on}
-use Rattle.radio_headline.specs.Listeners.{SitsWithASource}
-use Rattle.radio_headline.specs.Sources.{HasItsSource, IsAwaited, NobodyDelivers, RelaysDeliverTheirSound, SourcesDeliverTheirBodies}
 use Rattle.radio_headline.proofs.Logs.{after_joined}
 use Rattle.radio_headline.proofs.RunLemmas.{AllNowhere, IsMoment}
 use Rattle.radio_headline.proofs.SittingLemmas.{AreFed, IsFed, BySource, ByRelay, fed_all, none_fed, sits_with}

@@ -1,33 +1,11 @@
 -- How a head and a body are read, and more bytes after them.
 use Rattle.std.proofs.Common.{◌≡◌, ◌⊎◌, inl, inr, ℕ, Bool, true, false, List, [], ◌∷◌, ◌++◌, drop, Option, None, Some, Result, Ok, Err, refl, sym, ap, subst, ◌∙◌, append_assoc}
-use Rattle.std.specs.Prelude.{map, codes, if◌then◌else◌, length, option_map}
-use Rattle.std.specs.List.{concat}
-use Rattle.std.specs.Str.{bytes_eq}
-use Rattle.std.proofs.lemmas.List.{append-nil, drop-append-le}
-use Rattle.radio_blocks.specs.Cutting.{blocks_of}
-use Rattle.radio_policy.specs.declared.rule.Rule.{Rule}
-use Rattle.radio_policy.specs.declared.rule.Rule.TheVariants.{BadHead, BadMethod}
-use Rattle.radio_events.specs.declared.entry.Entry.{Entry}
-use Rattle.radio_events.specs.declared.event.Event.{Event}
-use Rattle.radio_events.specs.declared.event.Event.TheVariants.{Push, SourceEnd}
-use Rattle.radio_heads.specs.declared.outcome.Progress.{Progress}
-use Rattle.radio_heads.specs.declared.outcome.Progress.TheVariants.{More, Whole}
-use Rattle.radio_heads.specs.declared.outcome.HeadFault.{HeadFault}
-use Rattle.radio_heads.specs.Head.{RequestParts, ShowsRequest}
-use Rattle.radio_heads.specs.Laws.{IsStableReading, HeadsLieWithin}
-use Rattle.radio_heads.specs.Reading.{IsReading}
-use Rattle.radio_source.specs.Feeding.{unfed}
-use Rattle.radio_source.specs.Place.{Place, after, data_of}
-use Rattle.radio_session.specs.declared.session.Hears.TheVariants.{Body, Nothing}
-use Rattle.radio_session.specs.declared.session.Closing.{Closing}
+use Rattle.radio_headline.proofs.Words.{map, codes, if◌then◌else◌, length, option_map, concat, bytes_eq, append-nil, drop-append-le, blocks_of, Rule, BadMethod, Entry, Event, Push, SourceEnd, Progress, More, Whole}
+use Rattle.radio_headline.proofs.Words.{HeadFault, RequestParts, ShowsRequest, IsStableReading, HeadsLieWithin, IsReading, unfed, Place, after, data_of, Body, Nothing, Closing, WebAnswers, asks_to_feed, Conversation}
+use Rattle.radio_headline.proofs.Words.{is_source, framing_of, start_of, EventReading, body_heard, get_heard, greeted, head_heard, nothing_held, refuses, source_heard, body_delivered, pushed}
+use Rattle.radio_policy.specs.declared.rule.Rule.TheVariants.{BadHead}
 use Rattle.radio_session.specs.declared.session.LastWord.{LastWord}
-use Rattle.radio_answers.specs.declared.web_answers.WebAnswers.{WebAnswers}
-use Rattle.radio_session.specs.Asking.{asks_to_feed}
-use Rattle.radio_session.specs.Conversation.{Conversation}
-use Rattle.radio_session.specs.Framing.{is_source, framing_of, start_of}
-use Rattle.radio_session.specs.Hearing.{EventReading, body_heard, get_heard, greeted, head_heard, nothing_held, refuses, source_heard, body_delivered}
 use Rattle.radio_session.specs.Pushes.{pushes}
-use Rattle.radio_headline.specs.Sources.{pushed}
 use Rattle.radio_headline.proofs.AppliedLemmas.{EachAsked}
 use Rattle.radio_headline.proofs.Connections.{events_of, IsBehindRequest, ByGet, Feeds}
 use Rattle.radio_headline.proofs.ClientEvents.{asked_joined, feeds_with, get_with, pushed_joined}

@@ -1,23 +1,9 @@
 -- What was noted is the result of the events.
 use Rattle.std.proofs.Common.{◌≡◌, ℕ, List, [], ◌∷◌, ◌++◌, refl, sym, ap, subst, ◌∙◌}
-use Rattle.radio_settings_values.specs.declared.settings.Settings.{Settings}
-use Rattle.radio_access.specs.Lists.{Lists}
-use Rattle.radio_events.specs.declared.event.Event.{Event}
-use Rattle.radio_events.specs.declared.reply.Reply.{Reply}
-use Rattle.radio_icy.specs.Weaving.{Call}
-use Rattle.radio_icy.specs.Stream.{sound_of_calls}
-use Rattle.radio_core.specs.Handing.{of_client, delivered}
-use Rattle.radio_core.specs.Run.{world_after_all}
-use Rattle.radio_parts.specs.Step.{reply_to, world_after}
-use Rattle.radio_parts_station.specs.World.{World, opening}
-use Rattle.radio_laws.specs.Stretches.{sittings, AreStretches}
-use Rattle.radio_session.specs.Told.{draws_of}
-use Rattle.radio_events.specs.declared.entry.Entry.{Entry}
+use Rattle.radio_headline.proofs.Words.{Settings, Lists, Event, Reply, Call, sound_of_calls, of_client, delivered, world_after_all, reply_to, world_after, World, opening, sittings, AreStretches, draws_of, Entry}
+use Rattle.radio_headline.proofs.Words.{IsLawful, DrawsAreCut, DrawsAreStretches, draws_to, NobodyDelivers}
 use Rattle.radio_chronicle.specs.History.{IsRun}
 use Rattle.radio_headline.specs.Histories.{HistoriesAreLawful, draws_noted, events_noted}
-use Rattle.radio_headline.specs.Lawful.{IsLawful}
-use Rattle.radio_headline.specs.Listeners.{DrawsAreCut, DrawsAreStretches, draws_to}
-use Rattle.radio_headline.specs.Sources.{NobodyDelivers}
 
 noted_so : (w : World) (history : List Entry) (id : ℕ) → IsRun w history → draws_noted history id ≡ draws_to w (events_noted history) id
 noted_so w [] id run = refl

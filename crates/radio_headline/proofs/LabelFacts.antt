@@ -1,11 +1,6 @@
 -- What is known of each label, whatever became of its connection.
 use Rattle.std.proofs.Common.{ℕ, List, Option, None, Some, sym, subst}
-use Rattle.radio_relay.specs.Pulling.{Pulling}
-use Rattle.radio_answers.specs.declared.web_answers.WebAnswers.{WebAnswers}
-use Rattle.radio_session.specs.Conversation.{Conversation}
-use Rattle.radio_floor.specs.declared.labelled.Connection.{Connection}
-use Rattle.radio_floor.specs.declared.labelled.Connection.TheVariants.{Client, Relay}
-use Rattle.radio_events.specs.declared.entry.Entry.{Entry}
+use Rattle.radio_headline.proofs.Words.{Pulling, WebAnswers, Conversation, Connection, Client, Relay, Entry}
 use Rattle.radio_headline.proofs.Logs.{Each, each_as}
 use Rattle.radio_headline.proofs.RunLemmas.{IsOwn, IsIdling}
 use Rattle.radio_headline.proofs.Connections.{AsksNothing, Facts, HasAskedNothing, HasSentGet, IsSource, IsPulling, IsClosed, IsSo}

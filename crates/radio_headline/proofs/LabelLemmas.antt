@@ -1,21 +1,14 @@
 -- What becomes of labels, and what a transcript's lines give to each.
 use Rattle.std.proofs.Common.{◌≡◌, ℕ, ◌==◌, Bool, true, false, List, [], ◌∷◌, ◌++◌, Option, None, Some, refl, sym, ap, ◌∙◌, arith}
-use Rattle.std.proofs.lemmas.Bool.Decides.{nat_tests}
-use Rattle.std.specs.Prelude.{find, if◌then◌else◌}
+use Rattle.radio_headline.proofs.Words.{nat_tests, find, if◌then◌else◌, append-nil, flat_map-append, number_is, TranscriptLine, out, shut, given, given_in, line_text, transcript_text, Connection, Labelled, by_label}
+use Rattle.radio_headline.proofs.Words.{connection_of, has_label, holding, with_connection}
 use Rattle.std.specs.Option.{option_map}
 use Rattle.std.specs.Ordering.{is_eq, match_ordering}
 use Rattle.std.specs.declared.cmp.Ordering.{Ordering}
 use Rattle.std.specs.declared.cmp.Ordering.TheVariants.{Less, Equal, Greater}
-use Rattle.std.proofs.lemmas.List.{append-nil}
-use Rattle.std.proofs.lemmas.List.Concat.{flat_map-append}
 use Rattle.radio_tables.specs.Lists.{placed, update_first}
 use Rattle.radio_tables.proofs.FindLaws.{find_here, find_later, find_apart}
-use Rattle.radio_tables.proofs.KeyLaws.{number_is}
-use Rattle.radio_script.specs.Given.{TranscriptLine, out, shut, given, given_in, line_text, transcript_text}
 use Rattle.radio_script.specs.TranscriptLines.{answer_lines, out_line, out_lines, shut_line, shut_lines}
-use Rattle.radio_floor.specs.declared.labelled.Connection.{Connection}
-use Rattle.radio_floor.specs.declared.labelled.Labelled.{Labelled}
-use Rattle.radio_floor.specs.ScriptState.{by_label, connection_of, has_label, holding, with_connection}
 use Rattle.radio_headline.proofs.Logs.{itself, other_number}
 
 abbrev opened : ℕ → Option Connection → Labelled

@@ -33,3 +33,4 @@ mod ServedHearing
 mod ServedLemmas
 mod PlayedLemmas
 mod HistoryLemmas
+mod Words

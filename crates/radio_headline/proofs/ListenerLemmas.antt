@@ -1,61 +1,19 @@
 -- What a client gets that asks to listen to a mount.
 use Rattle.std.proofs.Common.{◌≡◌, inl, inr, ℕ, ◌==◌, Bool, true, false, List, [], ◌∷◌, ◌++◌, Option, None, Some, refl, sym, ap, subst, ◌∙◌}
-use Rattle.std.specs.Prelude.{if◌then◌else◌}
-use Rattle.std.specs.List.{AllByRecursion}
-use Rattle.std.proofs.lemmas.List.{append-nil}
-use Rattle.std.proofs.lemmas.List.Concat.{flat_map-append}
-use Rattle.radio_addr.specs.declared.peer.Peer.{Peer}
-use Rattle.radio_settings_values.specs.declared.settings.Settings.{Settings}
+use Rattle.radio_headline.proofs.Words.{if◌then◌else◌, AllByRecursion, append-nil, flat_map-append, Peer, Settings, Lists, Rule, Verdict, Allow, Row, Allows, verdict_in, Entry, Event, Listen, Draw, Command, Leave}
+use Rattle.radio_headline.proofs.Words.{rows_for, Denies, ListenRequest, Reply, Arrived, Feeding, Seated, Drawn, Noted, Text, Deny, Finished, Stray, StreamHead, client_in, Call, Standing, Unknown, Undecided, Feeds, Sits}
+use Rattle.radio_headline.proofs.Words.{ClientsStep, is_same_number, RepliesFit, Answer, Outcome, if_undecided, on_verdict, asks_by, shows_page, rows_to_listen, walks_to, run_after, outcome, reply_to, world_after}
+use Rattle.radio_headline.proofs.Words.{AddsUp, World, opening, standing_of, AccessIsKept, BeginsAtABlock, IsSeated, sittings, DenialsAreThePolicys, Serves, asks_by_get, asking, Says, joined_draws, denial, head_text}
+use Rattle.radio_headline.proofs.Words.{text_answer, AdmitNobody, DrawsFollowTheHead, draws_of, told, PlainDrawsAreTheirData, JoinedDrawsAreWoven, DrawsAreTakenOutAgain, Happening, events_in, on, applied_entry, log_on}
+use Rattle.radio_headline.proofs.Words.{CommandIsAnswered, DrawsAreCut, DrawsAreStretches, SitsWithASource, IsGiven, IsTooLate, draws_to, HasItsSource, WebAnswers}
 use Rattle.radio_settings_values.specs.Web.{web_path}
 use Rattle.radio_settings_values.specs.declared.web.WebPath.{WebPath}
-use Rattle.radio_access.specs.Lists.{Lists}
-use Rattle.radio_policy.specs.declared.rule.Rule.{Rule}
-use Rattle.radio_policy.specs.declared.judgement.Verdict.{Verdict}
-use Rattle.radio_policy.specs.declared.judgement.Verdict.TheVariants.{Allow, Deny as Denied}
-use Rattle.radio_policy.specs.Table.{Row}
-use Rattle.radio_policy.specs.Verdicts.{Allows, verdict_in}
-use Rattle.radio_events.specs.declared.entry.Entry.{Entry}
-use Rattle.radio_events.specs.declared.event.Event.{Event}
-use Rattle.radio_events.specs.declared.event.Event.TheVariants.{Listen, Draw, Command, Leave}
-use Rattle.radio_parts.specs.Ways.{rows_for}
-use Rattle.radio_policy.specs.Verdicts.{Denies}
+use Rattle.radio_policy.specs.declared.judgement.Verdict.TheVariants.{Deny as Denied}
 use Rattle.radio_events.specs.declared.command.CommandRequest.{CommandRequest}
 use Rattle.radio_events.specs.declared.text.ReplyText.{ReplyText as CommandText}
-use Rattle.radio_events.specs.declared.event.ListenRequest.{ListenRequest}
-use Rattle.radio_events.specs.declared.reply.Reply.{Reply}
-use Rattle.radio_events.specs.declared.reply.Reply.TheVariants.{Arrived, Feeding, Seated, Drawn, Noted, Text, Deny, Finished, Stray}
-use Rattle.radio_events.specs.declared.reply.StreamHead.{StreamHead}
-use Rattle.radio_events.specs.Events.{client_in}
-use Rattle.radio_icy.specs.Weaving.{Call}
-use Rattle.radio_parts_station.specs.declared.standing.Standing.{Standing}
-use Rattle.radio_parts_station.specs.declared.standing.Standing.TheVariants.{Unknown, Undecided, Feeds, Sits, Answered as IsAnswered, Finished as HasFinished}
-use Rattle.radio_core.specs.ClientSteps.{ClientsStep}
-use Rattle.radio_core.specs.Handing.{is_same_number}
-use Rattle.radio_core.specs.Others.{RepliesFit}
-use Rattle.radio_parts_changes.specs.declared.change.Change.TheVariants.{Answer}
-use Rattle.radio_parts.specs.declared.outcome.Outcome.{Outcome}
+use Rattle.radio_parts_station.specs.declared.standing.Standing.TheVariants.{Answered as IsAnswered, Finished as HasFinished}
 use Rattle.radio_parts.specs.Listen.{sits_where}
-use Rattle.radio_parts.specs.Outcomes.{if_undecided, on_verdict}
-use Rattle.radio_parts.specs.Pages.{asks_by, shows_page}
-use Rattle.radio_parts_station.specs.Facts.{rows_to_listen, walks_to}
-use Rattle.radio_core.specs.Run.{run_after}
-use Rattle.radio_parts.specs.Step.{outcome, reply_to, world_after}
-use Rattle.radio_core.specs.Totals.{AddsUp}
-use Rattle.radio_parts_station.specs.World.{World, opening, standing_of}
-use Rattle.radio_laws.specs.Access.{AccessIsKept}
-use Rattle.radio_laws.specs.Admission.{BeginsAtABlock, IsSeated}
-use Rattle.radio_laws.specs.Stretches.{sittings}
-use Rattle.radio_laws.specs.Denials.{DenialsAreThePolicys}
-use Rattle.radio_laws.specs.Service.{Serves}
-use Rattle.radio_session.specs.Asking.{asks_by_get}
-use Rattle.radio_session.specs.Conversation.{asking}
-use Rattle.radio_session.specs.declared.session.Says.{Says}
-use Rattle.radio_session.specs.Draws.{joined_draws}
-use Rattle.radio_answers.specs.Answers.{denial, head_text, text_answer}
-use Rattle.radio_session.specs.Told.{AdmitNobody, DrawsFollowTheHead, draws_of, told, PlainDrawsAreTheirData, JoinedDrawsAreWoven, DrawsAreTakenOutAgain}
-use Rattle.radio_headline.specs.Course.{Happening, events_in, on, applied_entry, log_on}
-use Rattle.radio_headline.specs.Listeners.{CommandIsAnswered, DrawsAreCut, DrawsAreStretches, SitsWithASource, Hears, IsDenied, IsGiven, IsShown, IsTooLate, draws_to}
-use Rattle.radio_headline.specs.Sources.{HasItsSource}
+use Rattle.radio_headline.specs.Listeners.{Hears, IsDenied, IsShown}
 use Rattle.radio_headline.proofs.Gathered.{IsOnIt}
 use Rattle.radio_headline.proofs.Logs.{after_joined, log_parted, replies, replies_joined, Each, each_as, each_joined, each_second, itself}
 use Rattle.radio_headline.proofs.AppliedLemmas.{IsOrderly, said_all, told_joined}
@@ -65,7 +23,6 @@ use Rattle.radio_headline.proofs.Connections.{arrival, AsksForMount, ByGet, IsId
 use Rattle.radio_headline.proofs.Connections.{IsClosed}
 use Rattle.radio_headline.proofs.GetLogs.{DrawsNothing, EntryFits, FitsEvent, GetsNot, IsGetting, IsHisOrDrawsNothing, IsMute, Waited, admit_nobody, by_get, calls, calls_of, draws_gathered, get_is_his, idle_not, idle_or_leaving_is_his, idle_or_leaving_not, mute_draws, no_calls, none_admitted, orderly_draws, orderly_second, waited}
 use Rattle.radio_headline.proofs.Partings.{Parted, parted}
-use Rattle.radio_answers.specs.declared.web_answers.WebAnswers.{WebAnswers}
 
 -- the events of clients come each on one connection
 module _ (web : WebAnswers) (settings : Settings) (lists : Lists)

@@ -1,16 +1,6 @@
 -- What has happened on the connection of one label: events, and the replies to them.
 use Rattle.std.proofs.Common.{◌≡◌, ℕ, ◌==◌, Bool, true, false, List, [], ◌∷◌, ◌++◌, refl, sym, ap, ◌∙◌, arith, append_assoc}
-use Rattle.std.specs.Prelude.{if◌then◌else◌, map}
-use Rattle.std.specs.List.{AllByRecursion}
-use Rattle.std.proofs.lemmas.Bool.Decides.{nat_tests}
-use Rattle.std.proofs.lemmas.List.{map-append}
-use Rattle.radio_events.specs.declared.entry.Entry.{Entry}
-use Rattle.radio_events.specs.declared.event.Event.{Event}
-use Rattle.radio_events.specs.declared.reply.Reply.{Reply}
-use Rattle.radio_core.specs.Run.{world_after_all}
-use Rattle.radio_parts.specs.Step.{world_after}
-use Rattle.radio_parts_station.specs.World.{World}
-use Rattle.radio_headline.specs.Course.{Happening, applied_entry, entry_on, events_in, log_on, on}
+use Rattle.radio_headline.proofs.Words.{if◌then◌else◌, map, AllByRecursion, nat_tests, map-append, Entry, Event, Reply, world_after_all, world_after, World, Happening, applied_entry, entry_on, events_in, log_on, on}
 
 -- events, with the replies to them
 abbrev pub entries : World → List Event → List Entry

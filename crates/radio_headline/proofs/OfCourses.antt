@@ -1,34 +1,10 @@
 -- What holds over any course, if it is known of each label what came on its connection, what happened there and what was given.
 use Rattle.std.proofs.Common.{◌≡◌, ℕ, List, ◌++◌}
-use Rattle.std.specs.List.{concat}
-use Rattle.radio_blocks.specs.Cutting.{blocks_of}
-use Rattle.radio_settings_values.specs.declared.settings.Settings.{Settings}
-use Rattle.radio_access.specs.Lists.{Lists}
-use Rattle.radio_answers.specs.declared.web_answers.WebAnswers.{WebAnswers}
-use Rattle.radio_policy.specs.declared.judgement.Verdict.TheVariants.{Allow}
-use Rattle.radio_policy.specs.Table.{Row}
-use Rattle.radio_policy.specs.Verdicts.{Allows, verdict_in}
-use Rattle.radio_events.specs.declared.event.Event.{Event}
-use Rattle.radio_heads.specs.Head.{ShowsRequest}
-use Rattle.radio_heads.specs.Laws.{IsStableReading, HeadsLieWithin}
-use Rattle.radio_source.specs.Place.{Place, after, data_of}
-use Rattle.radio_core.specs.ClientSteps.{ClientsStep}
-use Rattle.radio_core.specs.Others.{RepliesFit}
-use Rattle.radio_core.specs.Run.{run_after}
-use Rattle.radio_core.specs.SessionSteps.{KeepsSettings, SessionsStep}
-use Rattle.radio_core.specs.Totals.{AddsUp}
-use Rattle.radio_parts_station.specs.World.{opening}
-use Rattle.radio_laws.specs.Access.{AccessIsKept}
-use Rattle.radio_laws.specs.Admission.{BeginsAtABlock}
-use Rattle.radio_laws.specs.Denials.{DenialsAreThePolicys}
-use Rattle.radio_laws.specs.Service.{Serves}
-use Rattle.radio_laws.specs.Stretches.{SeatsKeepTheirMounts}
+use Rattle.radio_headline.proofs.Words.{concat, blocks_of, Settings, Lists, WebAnswers, Allow, Row, Allows, verdict_in, Event, ShowsRequest, IsStableReading, HeadsLieWithin, Place, after, data_of, ClientsStep}
+use Rattle.radio_headline.proofs.Words.{RepliesFit, run_after, KeepsSettings, SessionsStep, AddsUp, opening, AccessIsKept, BeginsAtABlock, DenialsAreThePolicys, Serves, SeatsKeepTheirMounts, DrawsFollowTheHead}
+use Rattle.radio_headline.proofs.Words.{PlainDrawsAreTheirData, JoinedDrawsAreWoven, DrawsAreTakenOutAgain, Happening, events_in, log_on, IsLawful, BodiesAreHeard, CourseHearsSlices, DrawsAreCut, DrawsAreStretches}
+use Rattle.radio_headline.proofs.Words.{NobodyDelivers, RelaysDeliverTheirSound, SourcesDeliverTheirBodies}
 use Rattle.radio_relay.specs.PullLaws.{ItemsAreOfTheirRelay}
-use Rattle.radio_session.specs.Told.{DrawsFollowTheHead, PlainDrawsAreTheirData, JoinedDrawsAreWoven, DrawsAreTakenOutAgain}
-use Rattle.radio_headline.specs.Course.{Happening, events_in, log_on}
-use Rattle.radio_headline.specs.Lawful.{IsLawful}
-use Rattle.radio_headline.specs.Listeners.{BodiesAreHeard, CourseHearsSlices, DrawsAreCut, DrawsAreStretches}
-use Rattle.radio_headline.specs.Sources.{NobodyDelivers, RelaysDeliverTheirSound, SourcesDeliverTheirBodies}
 use Rattle.radio_headline.proofs.BodyLemmas.{delivers_body, listens_so, source_answered}
 use Rattle.radio_headline.proofs.Connections.{IsClosed}
 use Rattle.radio_headline.proofs.HeadlineLemmas.{shown_by_source, sit_with_sources}

@@ -1,12 +1,8 @@
 -- The numbers that a relay's events have.
 use Rattle.std.proofs.Common.{◌≡◌, inl, ℕ, List, [], ◌∷◌, ◌++◌, Option, None, Some, sym, ap, subst, ◌∙◌, append_assoc}
-use Rattle.radio_events.specs.declared.entry.Entry.{Entry}
-use Rattle.radio_events.specs.declared.event.Event.{Event}
-use Rattle.radio_events.specs.declared.event.Event.TheVariants.{Arrive, Source, Push, SourceEnd, Title, Listen, Draw, Command, Leave, RelayUp, RelayDown, Clock}
-use Rattle.radio_events.specs.declared.reply.Reply.{Reply}
-use Rattle.radio_events.specs.declared.reply.Reply.TheVariants.{Arrived, Feeding, Seated, Drawn, Noted as WasNoted, Text, Deny, Finished, Stray}
-use Rattle.radio_events.specs.Events.{client_in}
-use Rattle.radio_relay.specs.Pulling.{state_after_reply}
+use Rattle.radio_headline.proofs.Words.{Entry, Event, Arrive, Source, Push, SourceEnd, Title, Listen, Draw, Command, Leave, RelayUp, RelayDown, Clock, Reply, Arrived, Feeding, Seated, Drawn, Text, Deny, Finished, Stray}
+use Rattle.radio_headline.proofs.Words.{client_in, state_after_reply}
+use Rattle.radio_events.specs.declared.reply.Reply.TheVariants.{Noted as WasNoted}
 use Rattle.radio_headline.proofs.Logs.{Each}
 use Rattle.radio_headline.proofs.Relays.RelayWords.{OfRelay, OwnRelay, number_stays}
 use Rattle.radio_headline.proofs.RunLemmas.{HasNumber, IsOwn, number_before, number_behind}

@@ -1,7 +1,6 @@
 -- The place in a log of its one entry of a kind.
 use Rattle.std.proofs.Common.{◌≡◌, List, [], ◌∷◌, ◌++◌, refl, sym, ap, subst, ◌∙◌}
-use Rattle.radio_events.specs.declared.entry.Entry.{Entry}
-use Rattle.radio_events.specs.declared.event.Event.{Event}
+use Rattle.radio_headline.proofs.Words.{Entry, Event}
 use Rattle.radio_headline.proofs.Logs.{Each, each_second}
 
 -- a log is parted at it in one way

@@ -1,15 +1,7 @@
 -- A script that is played to its end has the transcript of its deliveries.
 use Rattle.std.proofs.Common.{◌≡◌, ℕ, List, Option, None, Some}
-use Rattle.radio_settings_values.specs.declared.settings.Settings.{Settings}
-use Rattle.radio_access.specs.Lists.{Lists}
-use Rattle.radio_script.specs.declared.delivery.Delivery.{Delivery}
-use Rattle.radio_script.specs.declared.faults.PlayFault.{PlayFault}
+use Rattle.radio_headline.proofs.Words.{Settings, Lists, Delivery, PlayFault, Runs, ScriptState, opening_script, WebAnswers, conduct, HearsSlices, ListenersHearSlices}
 use Rattle.radio_script.specs.Transcripts.{run_fault}
-use Rattle.radio_script.specs.Runs.{Runs}
-use Rattle.radio_floor.specs.ScriptState.{ScriptState, opening_script}
-use Rattle.radio_answers.specs.declared.web_answers.WebAnswers.{WebAnswers}
-use Rattle.radio_floor.specs.Transcript.{conduct}
-use Rattle.radio_headline.specs.Scripts.{HearsSlices, ListenersHearSlices}
 
 -- no fault came, so no delivery stopped it
 by_stop : (P : Option ℕ → Type 0) (fault : Option PlayFault) (stop : Option ℕ) → None ≡ run_fault stop fault → P stop → P None

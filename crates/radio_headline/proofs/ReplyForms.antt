@@ -1,34 +1,18 @@
 -- What an event can be replied.
 use Rattle.std.proofs.Common.{◌≡◌, ◌⊎◌, ℕ, ◌+◌, inl, inr, List, [], Option, refl, sym, ap, subst, ◌∙◌}
-use Rattle.radio_policy.specs.declared.rule.Rule.{Rule}
-use Rattle.radio_events.specs.declared.event.Event.{Event}
-use Rattle.radio_events.specs.declared.event.Event.TheVariants.{Arrive, Source, Push, SourceEnd, Title, Listen, Draw, Command, Leave, RelayUp, RelayDown, Clock}
-use Rattle.radio_events.specs.declared.event.ListenRequest.{ListenRequest}
-use Rattle.radio_events.specs.declared.reply.Reply.{Reply}
-use Rattle.radio_events.specs.declared.reply.Reply.TheVariants.{Arrived, Seated, Drawn, Noted, Text, Deny, Finished, Stray}
-use Rattle.radio_events.specs.declared.reply.StreamHead.{StreamHead}
+use Rattle.radio_headline.proofs.Words.{Rule, Event, Arrive, Source, Push, SourceEnd, Title, Listen, Draw, Command, Leave, RelayUp, RelayDown, Clock, ListenRequest, Reply, Arrived, Seated, Drawn, Noted, Text, Deny}
+use Rattle.radio_headline.proofs.Words.{Finished, Stray, StreamHead, Verdict, Allow, verdict_in, Outcome, Standing, rows_to_push, if_feeding, on_verdict, Feeds, Sits, block_in, IsListing, IsAtPath, outcome, reply_to}
+use Rattle.radio_headline.proofs.Words.{world_after, Shown, Way, Misplaced, IsDenied, IsRefused, IsAdmitted, Begins, Receives, SetsTitle, TakesSeat, HandsOut, Ends, EndsAndLeaves, Obeys, Shows, HasPassed, Ticks, World}
+use Rattle.radio_headline.proofs.Words.{standing_of, pushed_by}
 use Rattle.radio_events.specs.declared.text.ReplyText.{ReplyText as CommandText}
-use Rattle.radio_policy.specs.declared.judgement.Verdict.{Verdict}
-use Rattle.radio_policy.specs.declared.judgement.Verdict.TheVariants.{Allow, Deny as Denied}
-use Rattle.radio_policy.specs.Verdicts.{verdict_in}
+use Rattle.radio_policy.specs.declared.judgement.Verdict.TheVariants.{Deny as Denied}
 use Rattle.radio_parts_changes.specs.declared.change.Change.TheVariants.{Nothing}
-use Rattle.radio_parts.specs.declared.outcome.Outcome.{Outcome}
-use Rattle.radio_parts_station.specs.declared.standing.Standing.{Standing}
-use Rattle.radio_parts_station.specs.Facts.{rows_to_push}
-use Rattle.radio_parts.specs.Outcomes.{if_feeding, on_verdict}
 use Rattle.radio_parts.specs.Push.{takes_in}
-use Rattle.radio_parts_station.specs.declared.standing.Standing.TheVariants.{Feeds, Sits}
 use Rattle.radio_parts.specs.Closing.{OfClient, OfRelay}
-use Rattle.radio_core.specs.Handing.{block_in}
-use Rattle.radio_parts.specs.Pages.{IsListing, IsAtPath}
 use Rattle.radio_parts_changes.specs.Changes.{changed}
-use Rattle.radio_parts.specs.Step.{outcome, reply_to, world_after}
-use Rattle.radio_values.specs.declared.field.Shown.{Shown}
-use Rattle.radio_parts.specs.Ways.{Way, Misplaced, IsFinished, IsDenied, IsRefused, IsAdmitted, Begins, ComesUp, Receives, SetsTitle, TakesSeat, HandsOut, Ends}
-use Rattle.radio_parts.specs.Ways.{EndsAndLeaves, Leaves, GoesDown, Obeys, Shows, HasPassed, Ticks}
-use Rattle.radio_parts_station.specs.World.{World, standing_of}
+use Rattle.radio_parts.specs.Ways.{IsFinished, ComesUp}
+use Rattle.radio_parts.specs.Ways.{Leaves, GoesDown}
 use Rattle.radio_parts.proofs.Ways.{way_of}
-use Rattle.radio_headline.specs.Sources.{pushed_by}
 
 -- the block that was noted
 abbrev pub noted_block : Reply → Event → List ℕ

@@ -1,32 +1,12 @@
 -- The clients of numbers, and clients that have asked for nothing yet, over a course.
 use Rattle.std.proofs.Common.{◌≡◌, ◌⊎◌, inl, inr, ℕ, ◌<◌, ◌≤◌, Bool, true, false, List, [], ◌∷◌, ◌++◌, Option, None, Some, refl, sym, ap, subst, ◌∙◌, arith}
-use Rattle.std.specs.Prelude.{if◌then◌else◌}
-use Rattle.std.specs.List.{AllByRecursion}
-use Rattle.std.proofs.lemmas.Bool.Decides.{nat_tests}
-use Rattle.radio_addr.specs.declared.peer.Peer.{Peer}
-use Rattle.radio_settings_values.specs.declared.settings.Settings.{Settings}
-use Rattle.radio_access.specs.Lists.{Lists}
-use Rattle.radio_policy.specs.declared.rule.Rule.{Rule}
-use Rattle.radio_events.specs.declared.entry.Entry.{Entry}
-use Rattle.radio_events.specs.declared.event.Event.{Event}
-use Rattle.radio_events.specs.declared.event.Event.TheVariants.{Arrive, Source, Push, SourceEnd, Title, Listen, Draw, Command, Leave, RelayUp, RelayDown, Clock}
-use Rattle.radio_events.specs.declared.reply.Reply.{Reply}
-use Rattle.radio_events.specs.declared.reply.Reply.TheVariants.{Arrived, Feeding, Seated, Drawn, Noted, Text, Deny, Finished, Stray}
-use Rattle.radio_events.specs.Events.{client_in}
-use Rattle.radio_parts_station.specs.declared.standing.Standing.{Standing}
-use Rattle.radio_parts_station.specs.declared.standing.Standing.TheVariants.{Unknown, Undecided, Feeds, Sits, Answered, Finished as HasFinished}
-use Rattle.radio_core.specs.ClientSteps.{ClientStep, ClientsStep}
-use Rattle.radio_core.specs.ClientSteps.{Stays, Arrives, IsAnswered, IsObeyed, IsShown, BeginsToFeed, SitsDown, StopsFeeding, Leaves, ComesUp, GoesDown, IsFinished}
-use Rattle.radio_core.specs.Finishes.{Finishes}
-use Rattle.radio_core.specs.Handing.{is_same_number}
-use Rattle.radio_parts.specs.Pages.{IsShownBy, IsListing, IsAtPath}
+use Rattle.radio_headline.proofs.Words.{if◌then◌else◌, AllByRecursion, nat_tests, Peer, Settings, Lists, Rule, Entry, Event, Arrive, Source, Push, SourceEnd, Title, Listen, Draw, Command, Leave, RelayUp, RelayDown}
+use Rattle.radio_headline.proofs.Words.{Clock, Reply, Arrived, Feeding, Seated, Drawn, Noted, Text, Deny, Finished, Stray, client_in, Standing, Unknown, Undecided, Feeds, Sits, Answered, ClientStep, ClientsStep, Stays}
+use Rattle.radio_headline.proofs.Words.{Arrives, IsAnswered, IsObeyed, IsShown, BeginsToFeed, SitsDown, StopsFeeding, Leaves, ComesUp, GoesDown, IsFinished, Finishes, is_same_number, IsShownBy, IsListing, IsAtPath}
+use Rattle.radio_headline.proofs.Words.{RepliesFit, HasCome, AsClient, run_after, world_after_all, reply_to, world_after, AddsUp, numbers_given, World, opening, standing_of, Happening, on, events_in, applied_entry}
+use Rattle.radio_headline.proofs.Words.{entry_on, log_on}
+use Rattle.radio_parts_station.specs.declared.standing.Standing.TheVariants.{Finished as HasFinished}
 use Rattle.radio_events.specs.declared.text.ReplyText.{ReplyText as CommandText}
-use Rattle.radio_core.specs.Others.{RepliesFit, HasCome, AsClient}
-use Rattle.radio_core.specs.Run.{run_after, world_after_all}
-use Rattle.radio_parts.specs.Step.{reply_to, world_after}
-use Rattle.radio_core.specs.Totals.{AddsUp, numbers_given}
-use Rattle.radio_parts_station.specs.World.{World, opening, standing_of}
-use Rattle.radio_headline.specs.Course.{Happening, on, events_in, applied_entry, entry_on, log_on}
 use Rattle.radio_headline.proofs.Logs.{Each, each_second, itself, after_joined}
 use Rattle.radio_headline.proofs.ReplyForms.{next_number, IsIdle, IdleReply, IsStray, WasFinished, Sitting, Sourcing, idle_reply}
 

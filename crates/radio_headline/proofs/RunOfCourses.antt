@@ -1,27 +1,11 @@
 -- Deliveries that yield a transcript yield a course.
 use Rattle.std.proofs.Common.{◌≡◌, inl, inr, ℕ, ◌+◌, List, [], ◌∷◌, ◌++◌, Option, None, Some, refl, sym, ap, subst, ◌∙◌, append_assoc}
-use Rattle.std.specs.List.{concat}
-use Rattle.std.proofs.lemmas.List.{append-nil}
-use Rattle.radio_blocks.specs.Cutting.{blocks_of}
-use Rattle.radio_settings_values.specs.declared.settings.Settings.{Settings}
-use Rattle.radio_access.specs.Lists.{Lists}
-use Rattle.radio_heads.specs.Head.{ShowsRequest}
-use Rattle.radio_heads.specs.Laws.{IsStableReading, HeadsLieWithin}
-use Rattle.radio_source.specs.Place.{Place, after, data_of}
-use Rattle.radio_script.specs.declared.delivery.Delivery.{Delivery}
-use Rattle.radio_script.specs.Given.{TranscriptLine, transcript_text}
-use Rattle.radio_script.specs.Runs.{Runs}
-use Rattle.radio_floor.specs.ScriptState.{ScriptState}
-use Rattle.radio_floor.specs.ScriptState.{opening_script}
-use Rattle.radio_floor.specs.Transcript.{conduct}
-use Rattle.radio_headline.specs.Course.{Happening, courses}
-use Rattle.radio_heads.specs.Response.{ShowsResponse}
-use Rattle.radio_relay.proofs.CutLemmas.{AfterPieces, HeardInPieces}
+use Rattle.radio_headline.proofs.Words.{concat, append-nil, blocks_of, Settings, Lists, ShowsRequest, IsStableReading, HeadsLieWithin, Place, after, data_of, Delivery, TranscriptLine, transcript_text, Runs, ScriptState}
+use Rattle.radio_headline.proofs.Words.{opening_script, conduct, Happening, courses, ShowsResponse, AfterPieces, HeardInPieces, WebAnswers}
 use Rattle.radio_headline.proofs.LabelLemmas.{written_joined}
 use Rattle.radio_headline.proofs.FaultLemmas.{at_fault_so}
 use Rattle.radio_headline.proofs.CourseLemmas.{performs_next}
 use Rattle.radio_headline.proofs.Standing.{Stands}
-use Rattle.radio_answers.specs.declared.web_answers.WebAnswers.{WebAnswers}
 
 module _ (web : WebAnswers) (settings : Settings) (lists : Lists) (settled : IsStableReading ShowsRequest) (within : HeadsLieWithin ShowsRequest)
     (settled_answers : IsStableReading ShowsResponse) (within_answers : HeadsLieWithin ShowsResponse) (none_blocks : blocks_of [] ≡ []) (in_pieces : HeardInPieces)

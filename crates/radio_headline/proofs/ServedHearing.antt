@@ -1,28 +1,10 @@
 -- What bytes leave of a client's connection that is served event by event.
 use Rattle.std.proofs.Common.{◌≡◌, ◌⊎◌, inl, inr, ℕ, List, [], ◌∷◌, ◌++◌, drop, refl, sym, ap, subst, ◌∙◌}
-use Rattle.std.specs.List.{concat}
-use Rattle.std.proofs.lemmas.List.{append-nil}
-use Rattle.radio_addr.specs.declared.peer.Peer.{Peer}
-use Rattle.radio_blocks.specs.Cutting.{blocks_of}
-use Rattle.radio_events.specs.declared.entry.Entry.{Entry}
-use Rattle.radio_events.specs.declared.event.Event.{Event}
-use Rattle.radio_events.specs.declared.event.Event.TheVariants.{Leave}
-use Rattle.radio_events.specs.declared.reply.Reply.TheVariants.{Arrived}
-use Rattle.radio_heads.specs.Head.{RequestParts, ShowsRequest}
-use Rattle.radio_heads.specs.Laws.{IsStableReading, HeadsLieWithin}
-use Rattle.radio_heads.specs.Reading.{IsReading}
-use Rattle.radio_source.specs.Feeding.{unfed}
-use Rattle.radio_source.specs.Place.{Place, after, data_of, fault_at, has_ended}
-use Rattle.radio_answers.specs.declared.web_answers.WebAnswers.{WebAnswers}
-use Rattle.radio_session.specs.declared.session.Hears.{Hears}
-use Rattle.radio_session.specs.declared.session.Hears.TheVariants.{Head as HearsHead, Body, Nothing}
-use Rattle.radio_session.specs.declared.session.Says.{Says}
-use Rattle.radio_session.specs.Asking.{asks_by_get, asks_to_feed}
-use Rattle.radio_session.specs.Conversation.{asking}
-use Rattle.radio_session.specs.Framing.{greeting_of}
-use Rattle.radio_session.specs.Hearing.{EventReading, HearsAs, IsHeard, body_closes, greeted, head_heard, nothing_held}
-use Rattle.radio_connections.specs.Course.{HasAllApplied, Standing}
-use Rattle.radio_headline.specs.Sources.{pushed}
+use Rattle.radio_headline.proofs.Words.{concat, append-nil, Peer, blocks_of, Entry, Event, Leave, Arrived, RequestParts, ShowsRequest, IsStableReading, HeadsLieWithin, IsReading, unfed, Place, after, data_of, fault_at}
+use Rattle.radio_headline.proofs.Words.{has_ended, WebAnswers, Hears, Body, Nothing, Says, asks_by_get, asks_to_feed, asking, greeting_of, EventReading, HearsAs, IsHeard, body_closes, greeted, head_heard, nothing_held}
+use Rattle.radio_headline.proofs.Words.{HasAllApplied, pushed}
+use Rattle.radio_session.specs.declared.session.Hears.TheVariants.{Head as HearsHead}
+use Rattle.radio_connections.specs.Course.{Standing}
 use Rattle.radio_headline.proofs.AppliedLemmas.{EachAsked, said_all, web_stays}
 use Rattle.radio_headline.proofs.Connections.{IsBehindRequest, IsTold}
 use Rattle.radio_headline.proofs.HeardLemmas.{AGet, ASource, Delivers, HeadHeard, IsRefused, Unfinished, behind_head, delivers_by, more_for_get, more_for_source, of_reading}

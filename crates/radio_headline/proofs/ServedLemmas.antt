@@ -1,40 +1,15 @@
 -- The course of a connection that is served event by event: a client's, or a relay's.
 use Rattle.std.proofs.Common.{◌≡◌, inr, ℕ, Bool, true, false, List, [], ◌∷◌, ◌++◌, None, Some, refl, sym, ap, subst, ◌∙◌}
-use Rattle.std.specs.Prelude.{if◌then◌else◌}
-use Rattle.std.specs.List.{AllByRecursion, concat}
-use Rattle.std.proofs.lemmas.List.{append-nil}
-use Rattle.radio_addr.specs.declared.peer.Peer.{Peer}
-use Rattle.radio_blocks.specs.Cutting.{blocks_of}
-use Rattle.radio_events.specs.declared.entry.Entry.{Entry}
-use Rattle.radio_events.specs.declared.event.Event.{Event}
-use Rattle.radio_events.specs.declared.event.Event.TheVariants.{Arrive, Draw, Leave, RelayUp}
-use Rattle.radio_events.specs.declared.reply.Reply.{Reply}
-use Rattle.radio_events.specs.declared.reply.Reply.TheVariants.{Arrived}
-use Rattle.radio_events.specs.declared.state.State.{State}
-use Rattle.radio_events.specs.declared.state.State.TheVariants.{Running, Shut}
-use Rattle.radio_events.specs.Events.{client_in, entry as entry_of}
-use Rattle.radio_heads.specs.Head.{ShowsRequest}
-use Rattle.radio_heads.specs.Laws.{IsStableReading, HeadsLieWithin}
-use Rattle.radio_parts_station.specs.World.{World}
-use Rattle.radio_source.specs.Place.{Place, after, data_of}
-use Rattle.radio_core.specs.Handing.{is_same_number}
-use Rattle.radio_parts.specs.Step.{reply_to, world_after}
-use Rattle.radio_relay.specs.Answer.{shown_in_response}
-use Rattle.radio_answers.specs.declared.web_answers.WebAnswers.{WebAnswers}
-use Rattle.radio_relay.specs.Applied.{PullCourse, PullSoFar}
-use Rattle.radio_session.specs.declared.session.Says.{Says}
-use Rattle.radio_session.specs.Asking.{asks_by_get, asks_to_feed}
-use Rattle.radio_session.specs.Conversation.{asking}
-use Rattle.radio_session.specs.Hearing.{EventReading, IsHeard}
-use Rattle.radio_session.specs.Saying.{said}
-use Rattle.radio_session.specs.Told.{told, while_open}
+use Rattle.radio_headline.proofs.Words.{if◌then◌else◌, AllByRecursion, concat, append-nil, Peer, blocks_of, Entry, Event, Arrive, Draw, Leave, RelayUp, Reply, Arrived, State, Running, Shut, client_in, ShowsRequest}
+use Rattle.radio_headline.proofs.Words.{IsStableReading, HeadsLieWithin, World, Place, after, data_of, is_same_number, reply_to, world_after, shown_in_response, WebAnswers, PullCourse, PullSoFar, Says, asks_by_get}
+use Rattle.radio_headline.proofs.Words.{asks_to_feed, asking, EventReading, IsHeard, said, told, while_open, Arrival, IsOver, HasAllApplied, LetsNobodyIn, standing_after_reply, fate_by, newcomer, arrives, turned_away}
+use Rattle.radio_headline.proofs.Words.{hears, has_room, applies, is_cut, passes_over, leaves, Happening, applied_entry, entry_on, log_on, pushed}
+use Rattle.radio_events.specs.Events.{entry as entry_of}
 use Rattle.radio_connections.specs.declared.conn.Fate.{Fate}
 use Rattle.radio_connections.specs.declared.conn.Fate.TheVariants.{Open, Ended, Closed, Cut}
-use Rattle.radio_connections.specs.Course.{Arrival, Course as ConnectionCourse, IsOver, HasAllApplied, LetsNobodyIn, Standing, standing_after_reply, fate_by, newcomer}
-use Rattle.radio_connections.specs.Course.{arrives, turned_away, hears, has_room, applies, closes, is_cut, passes_over, leaves}
-use Rattle.radio_headline.specs.Course.{Happening, applied_entry, entry_on, log_on}
+use Rattle.radio_connections.specs.Course.{Course as ConnectionCourse, Standing}
+use Rattle.radio_connections.specs.Course.{closes}
 use Rattle.radio_headline.specs.Served.{HasCourse, HasHappened, HasLabelOrMoment, NothingWas, WasLetGo, WasPulled, WasServed, WasTurnedAway}
-use Rattle.radio_headline.specs.Sources.{pushed}
 use Rattle.radio_headline.proofs.AppliedLemmas.{IsLeaving, IsNotLast, IsOrderly, closes_nothing, last_shuts, leaves_silently, orderly_joined}
 use Rattle.radio_headline.proofs.ClientEvents.{client_owns, events_of_joined, feeds_with, get_with, pushed_joined}
 use Rattle.radio_headline.proofs.Connections.{AsksNothing, ByGet, Facts, Feeds, HasAskedNothing, HasSentGet, IsClosed, IsIdleOrLeaving, IsNoRequest, IsPulling, IsSource, arrival, events_of}

@@ -1,33 +1,10 @@
 -- The stages of a client's connection that is served event by event, and the events that may follow.
 use Rattle.std.proofs.Common.{◌≡◌, ◌⊎◌, inl, inr, ℕ, true, false, List, [], ◌∷◌, ◌++◌, drop, Option, Some, Ok, refl, sym, ap, subst, ◌∙◌, append_assoc}
-use Rattle.std.specs.Prelude.{codes, option_map}
-use Rattle.std.specs.Str.{bytes_eq}
-use Rattle.std.proofs.lemmas.List.{append-nil}
-use Rattle.radio_addr.specs.declared.peer.Peer.{Peer}
-use Rattle.radio_events.specs.declared.entry.Entry.{Entry}
-use Rattle.radio_events.specs.declared.event.Event.{Event}
-use Rattle.radio_events.specs.declared.event.Event.TheVariants.{Draw}
-use Rattle.radio_events.specs.declared.reply.Reply.{Reply}
-use Rattle.radio_events.specs.declared.reply.Reply.TheVariants.{Arrived}
-use Rattle.radio_events.specs.declared.state.State.{State}
-use Rattle.radio_events.specs.declared.state.State.TheVariants.{Running}
-use Rattle.radio_events.specs.Events.{client_in, entry}
-use Rattle.radio_heads.specs.declared.outcome.Progress.TheVariants.{Whole}
-use Rattle.radio_heads.specs.Head.{RequestParts, ShowsRequest}
-use Rattle.radio_heads.specs.Reading.{IsReading}
-use Rattle.radio_source.specs.Feeding.{unfed}
-use Rattle.radio_source.specs.Place.{Place, after, data_of}
-use Rattle.radio_answers.specs.declared.web_answers.WebAnswers.{WebAnswers}
-use Rattle.radio_session.specs.declared.session.Closing.{Closing}
-use Rattle.radio_session.specs.declared.session.Hears.TheVariants.{Head as HearsHead, Body, Nothing}
-use Rattle.radio_session.specs.declared.session.Says.{Says}
-use Rattle.radio_session.specs.Asking.{asks_by_get, asks_to_feed}
-use Rattle.radio_session.specs.Conversation.{Conversation, asking, saying_now}
-use Rattle.radio_session.specs.Framing.{framing_of, is_source, start_of}
-use Rattle.radio_session.specs.Saying.{Said, said}
-use Rattle.radio_session.specs.Told.{told}
-use Rattle.radio_connections.specs.Course.{Standing, standing_after_reply, pending_by}
-use Rattle.radio_headline.specs.Sources.{pushed}
+use Rattle.radio_headline.proofs.Words.{codes, option_map, bytes_eq, append-nil, Peer, Entry, Event, Draw, Reply, Arrived, State, Running, client_in, entry, Whole, RequestParts, ShowsRequest, IsReading, unfed, Place}
+use Rattle.radio_headline.proofs.Words.{after, data_of, WebAnswers, Closing, Body, Nothing, Says, asks_by_get, asks_to_feed, Conversation, asking, saying_now, framing_of, is_source, start_of, Said, said, told}
+use Rattle.radio_headline.proofs.Words.{standing_after_reply, pending_by, pushed}
+use Rattle.radio_session.specs.declared.session.Hears.TheVariants.{Head as HearsHead}
+use Rattle.radio_connections.specs.Course.{Standing}
 use Rattle.radio_headline.proofs.AppliedLemmas.{EachAsked, IsLast, IsNotLast, IsOpen, IsOrderly, nothing_later, open_joined, said_all, said_joined, told_joined}
 use Rattle.radio_headline.proofs.ClientEvents.{IsIdleOrLeave, behind_is_his, events_of_joined, feeds_with, get_with, idle_asks_nothing, idle_is_his, idle_or_leaving_is_his, pushed_joined}
 use Rattle.radio_headline.proofs.Connections.{arrival, AsksForMount, AsksNothing, ByGet, Facts, Feeds, HasAskedNothing, HasSentGet, IsBehindRequest, IsGreeted, IsIdleOrLeaving, IsNoRequest, IsSource, IsTold, events_of}

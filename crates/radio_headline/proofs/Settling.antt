@@ -1,23 +1,12 @@
 -- Events of a client's connection are exchanged.
 use Rattle.std.proofs.Common.{◌≡◌, ℕ, List, ◌∷◌, ◌++◌, Some, sym, ap, subst, ◌∙◌, append_assoc}
-use Rattle.radio_addr.specs.declared.peer.Peer.{Peer}
-use Rattle.radio_events.specs.declared.entry.Entry.{Entry}
-use Rattle.radio_events.specs.declared.event.Event.{Event}
-use Rattle.radio_events.specs.Events.{client_in}
-use Rattle.radio_parts_station.specs.World.{World}
-use Rattle.radio_events.specs.declared.state.State.TheVariants.{Running}
-use Rattle.radio_session.specs.Conversation.{Conversation, saying_now}
-use Rattle.radio_floor.specs.Exchanges.{exchanged}
-use Rattle.radio_floor.specs.declared.labelled.Connection.TheVariants.{Client}
-use Rattle.radio_floor.specs.ScriptState.{connection_unless}
-use Rattle.radio_headline.specs.Course.{applied}
+use Rattle.radio_headline.proofs.Words.{Peer, Entry, Event, client_in, World, Running, Conversation, saying_now, exchanged, Client, connection_unless, applied, WebAnswers}
 use Rattle.radio_headline.proofs.Logs.{entries, Each}
 use Rattle.radio_headline.proofs.AppliedLemmas.{EachAsked}
 use Rattle.radio_headline.proofs.Connections.{arrival}
 use Rattle.radio_headline.proofs.Connections.{Facts, Stage}
 use Rattle.radio_headline.proofs.Connections.{IsClient, IsSo}
 use Rattle.radio_headline.proofs.ClientEvents.{settles}
-use Rattle.radio_answers.specs.declared.web_answers.WebAnswers.{WebAnswers}
 
 pub logged : {A : Type 0} (first : A) (xs ys zs : List A) → first ∷ xs ++ ys ++ zs ≡ first ∷ xs ++ (ys ++ zs)
 logged first xs ys zs = append_assoc (first ∷ xs) ys zs

@@ -1,26 +1,10 @@
 -- Each sitting is in the session of a source, or waits for one.
 use Rattle.std.proofs.Common.{◌≡◌, inl, inr, ℕ, ◌+◌, ◌==◌, Bool, true, false, List, [], ◌∷◌, ◌++◌, Option, None, Some, refl, sym, ap, subst, ◌∙◌, append_assoc}
-use Rattle.std.specs.Prelude.{if◌then◌else◌}
-use Rattle.std.specs.List.{AllByRecursion}
-use Rattle.std.proofs.lemmas.List.{append-nil}
-use Rattle.radio_values.specs.declared.field.Shown.{Shown}
-use Rattle.radio_settings_values.specs.declared.settings.Settings.{Settings}
-use Rattle.radio_access.specs.Lists.{Lists}
-use Rattle.radio_events.specs.declared.event.Event.{Event}
-use Rattle.radio_events.specs.declared.event.Event.TheVariants.{Source, RelayUp}
-use Rattle.radio_events.specs.declared.event.SourceRequest.{SourceRequest}
-use Rattle.radio_events.specs.declared.reply.Reply.TheVariants.{Arrived}
+use Rattle.radio_headline.proofs.Words.{if◌then◌else◌, AllByRecursion, append-nil, Shown, Settings, Lists, Event, Source, RelayUp, SourceRequest, Arrived, seat_of, Session, session_of, run_after, HasBegun, SessionStep}
+use Rattle.radio_headline.proofs.Words.{SessionsStep, BeginsForRelay, Grows, IsTitled, IsRetitled, IsKilled, reply_to, world_after, heard_at, World, opening, SeatsKeepTheirMounts, Sitting, begun_sittings}
+use Rattle.radio_headline.proofs.Words.{sitting_of_seat, sittings, Happening, events_in, on}
 use Rattle.radio_seats_rows.specs.declared.seat.Seat.{Seat}
-use Rattle.radio_seats_rows.specs.Seats.{seat_of}
-use Rattle.radio_parts_mount.specs.Sessions.{Session, session_of}
-use Rattle.radio_core.specs.Run.{run_after}
-use Rattle.radio_core.specs.SessionSteps.{HasBegun, SessionStep, SessionsStep}
-use Rattle.radio_core.specs.SessionSteps.{Stays, Begins, BeginsForRelay, Grows, IsTitled, IsRetitled, Ends, IsKilled}
-use Rattle.radio_parts.specs.Step.{reply_to, world_after}
-use Rattle.radio_parts_station.specs.Waiting.{heard_at}
-use Rattle.radio_parts_station.specs.World.{World, opening}
-use Rattle.radio_laws.specs.Stretches.{SeatsKeepTheirMounts, Sitting, begun_sittings, sitting_of_seat, sittings}
-use Rattle.radio_headline.specs.Course.{Happening, events_in, on}
+use Rattle.radio_core.specs.SessionSteps.{Stays, Begins, Ends}
 use Rattle.radio_headline.proofs.Logs.{after_joined, events_joined}
 use Rattle.radio_headline.proofs.ReplyForms.{comes_up}
 use Rattle.radio_headline.proofs.RunLemmas.{AllNowhere, IsMoment}

@@ -1,31 +1,9 @@
 -- Each relay of a script delivers a front of the sound that its master's answer pulls in.
 use Rattle.std.proofs.Common.{◌≡◌, inl, inr, ℕ, Bool, true, false, List, [], ◌∷◌, ◌++◌, drop, Option, None, Some, Ok, refl, sym, ap, subst, ◌∙◌, append_assoc}
-use Rattle.std.specs.Prelude.{if◌then◌else◌}
-use Rattle.std.specs.List.{AllByRecursion}
-use Rattle.radio_values.specs.declared.field.Shown.{Shown}
-use Rattle.radio_settings_values.specs.declared.settings.Settings.{Settings}
-use Rattle.radio_access.specs.Lists.{Lists}
-use Rattle.radio_events.specs.declared.entry.Entry.{Entry}
-use Rattle.radio_events.specs.declared.event.Event.{Event}
-use Rattle.radio_events.specs.declared.event.Event.TheVariants.{Arrive, Source, Push, SourceEnd, Title, Listen, Draw, Command, Leave, RelayUp, RelayDown, Clock}
-use Rattle.radio_events.specs.declared.reply.Reply.{Reply}
-use Rattle.radio_events.specs.declared.reply.Reply.TheVariants.{Arrived}
-use Rattle.radio_events.specs.Events.{client_in}
-use Rattle.radio_core.specs.ClientSteps.{ClientsStep}
-use Rattle.radio_core.specs.Handing.{delivered}
-use Rattle.radio_core.specs.Others.{RepliesFit}
-use Rattle.radio_core.specs.Run.{run_after}
-use Rattle.radio_parts.specs.Step.{reply_to, world_after}
-use Rattle.radio_core.specs.Totals.{AddsUp}
-use Rattle.radio_parts_station.specs.World.{World, opening}
-use Rattle.radio_heads.specs.declared.outcome.Progress.TheVariants.{Whole}
-use Rattle.radio_heads.specs.Head.{RequestParts}
-use Rattle.radio_relay.specs.Answer.{shown_in_response}
-use Rattle.radio_relay.specs.Pulled.{ShownPart, pulled_by_interval, stream_parts, stream_pulled, stream_with}
-use Rattle.radio_session.specs.Asking.{asks_by_get, asks_to_hear, gives_command, is_for_commands, path_in}
-use Rattle.radio_relay.specs.Pulling.{state_after_reply}
-use Rattle.radio_headline.specs.Course.{Happening, events_in, on, applied_entry, log_on}
-use Rattle.radio_headline.specs.Sources.{DeliversItsSound, RelaysDeliverTheirSound, pushed}
+use Rattle.radio_headline.proofs.Words.{if◌then◌else◌, AllByRecursion, Shown, Settings, Lists, Entry, Event, Arrive, Source, Push, SourceEnd, Title, Listen, Draw, Command, Leave, RelayUp, RelayDown, Clock, Reply}
+use Rattle.radio_headline.proofs.Words.{Arrived, client_in, ClientsStep, delivered, RepliesFit, run_after, reply_to, world_after, AddsUp, World, opening, Whole, RequestParts, shown_in_response, ShownPart}
+use Rattle.radio_headline.proofs.Words.{pulled_by_interval, stream_parts, stream_pulled, stream_with, asks_by_get, asks_to_hear, gives_command, is_for_commands, path_in, state_after_reply, Happening, events_in, on}
+use Rattle.radio_headline.proofs.Words.{applied_entry, log_on, DeliversItsSound, RelaysDeliverTheirSound, pushed, WebAnswers}
 use Rattle.radio_headline.proofs.Gathered.{IsOnIt}
 use Rattle.radio_headline.proofs.Logs.{log_parted, Each, each_as, each_joined}
 use Rattle.radio_headline.proofs.Relays.RelayWords.{IsCut, IsNoUp, OfRelay, OwnRelay, number_stays}
@@ -36,7 +14,6 @@ use Rattle.radio_headline.proofs.ClientEvents.{behind_is_his, idle_asks_nothing}
 use Rattle.radio_headline.proofs.ListenerLemmas.{on_his}
 use Rattle.radio_headline.proofs.SourceLemmas.{Front, IsHisOrNotesNothing, brings_front, delivered_gathered, no_block, noted}
 use Rattle.radio_headline.proofs.Partings.{none_there}
-use Rattle.radio_answers.specs.declared.web_answers.WebAnswers.{WebAnswers}
 
 -- by this event a relay comes up
 abbrev IsUp : Event → Type 0

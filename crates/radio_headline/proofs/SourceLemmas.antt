@@ -1,29 +1,10 @@
 -- What a source delivers is a front of the data of its body.
 use Rattle.std.proofs.Common.{◌≡◌, ◌⊎◌, inl, inr, ℕ, ◌≤◌, Bool, true, false, List, [], ◌∷◌, ◌++◌, Some, refl, sym, ap, subst, ◌∙◌, arith, append_assoc}
-use Rattle.std.specs.Prelude.{if◌then◌else◌}
-use Rattle.std.specs.List.{AllByRecursion, flat_map}
-use Rattle.radio_settings_values.specs.declared.settings.Settings.{Settings}
-use Rattle.radio_access.specs.Lists.{Lists}
-use Rattle.radio_policy.specs.declared.rule.Rule.{Rule}
-use Rattle.radio_events.specs.declared.entry.Entry.{Entry}
-use Rattle.radio_events.specs.declared.event.Event.{Event}
-use Rattle.radio_events.specs.declared.event.Event.TheVariants.{Arrive, Source, Push, SourceEnd, Title, Listen, Draw, Command, Leave, RelayUp, RelayDown, Clock}
-use Rattle.radio_events.specs.declared.reply.Reply.{Reply}
-use Rattle.radio_events.specs.declared.reply.Reply.TheVariants.{Arrived, Feeding, Seated, Drawn, Noted, Text, Deny, Finished, Stray}
-use Rattle.radio_events.specs.Events.{client_in}
-use Rattle.radio_parts_station.specs.declared.standing.Standing.{Standing}
-use Rattle.radio_parts_station.specs.declared.standing.Standing.TheVariants.{Unknown, Undecided, Feeds, Sits, Answered, Finished as HasFinished}
-use Rattle.radio_core.specs.ClientSteps.{ClientStep, ClientsStep}
-use Rattle.radio_core.specs.ClientSteps.{Stays, Arrives, IsAnswered, IsObeyed, IsShown, BeginsToFeed, SitsDown, StopsFeeding, Leaves, ComesUp, GoesDown, IsFinished}
-use Rattle.radio_core.specs.Finishes.{Finishes}
-use Rattle.radio_core.specs.Handing.{is_same_number, delivered}
-use Rattle.radio_core.specs.Others.{RepliesFit}
-use Rattle.radio_core.specs.Run.{run_after, world_after_all}
-use Rattle.radio_parts.specs.Step.{reply_to, world_after}
-use Rattle.radio_core.specs.Totals.{AddsUp}
-use Rattle.radio_parts_station.specs.World.{World, standing_of}
-use Rattle.radio_headline.specs.Course.{Happening, events_in, on, applied_entry, log_on}
-use Rattle.radio_headline.specs.Sources.{pushed, pushed_by}
+use Rattle.radio_headline.proofs.Words.{if◌then◌else◌, AllByRecursion, flat_map, Settings, Lists, Rule, Entry, Event, Arrive, Source, Push, SourceEnd, Title, Listen, Draw, Command, Leave, RelayUp, RelayDown, Clock}
+use Rattle.radio_headline.proofs.Words.{Reply, Arrived, Feeding, Seated, Drawn, Noted, Text, Deny, Finished, Stray, client_in, Standing, Unknown, Undecided, Feeds, Sits, Answered, ClientStep, ClientsStep, Stays, Arrives}
+use Rattle.radio_headline.proofs.Words.{IsAnswered, IsObeyed, IsShown, BeginsToFeed, SitsDown, StopsFeeding, Leaves, ComesUp, GoesDown, IsFinished, Finishes, is_same_number, delivered, RepliesFit, run_after}
+use Rattle.radio_headline.proofs.Words.{world_after_all, reply_to, world_after, AddsUp, World, standing_of, Happening, events_in, on, applied_entry, log_on, pushed, pushed_by}
+use Rattle.radio_parts_station.specs.declared.standing.Standing.TheVariants.{Finished as HasFinished}
 use Rattle.radio_headline.proofs.Logs.{Each}
 use Rattle.radio_headline.proofs.AppliedLemmas.{IsLast, IsLeaving, IsOrderly}
 use Rattle.radio_headline.proofs.ReplyForms.{noted_block, brings_noted, PushReply, PushIsStray, PushIsLast, PushIsDenied, PushIsNoted, push_reply, feeds_push}

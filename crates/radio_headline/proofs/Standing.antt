@@ -1,28 +1,11 @@
 -- The state of each connection, and when something happens on one.
 use Rattle.std.proofs.Common.{◌≡◌, ℕ, ◌==◌, Bool, true, false, List, [], ◌∷◌, ◌++◌, Option, refl, sym, ap, subst, ◌∙◌}
-use Rattle.std.specs.Prelude.{map, if◌then◌else◌}
-use Rattle.std.proofs.lemmas.List.{append-nil}
-use Rattle.std.proofs.lemmas.List.Concat.{flat_map-append}
-use Rattle.radio_settings_values.specs.declared.settings.Settings.{Settings}
-use Rattle.radio_access.specs.Lists.{Lists}
-use Rattle.radio_events.specs.declared.entry.Entry.{Entry}
-use Rattle.radio_events.specs.declared.event.Event.{Event}
-use Rattle.radio_core.specs.Run.{run_after, world_after_all}
-use Rattle.radio_parts_station.specs.World.{World, opening}
-use Rattle.radio_script.specs.declared.delivery.Delivery.{Delivery}
-use Rattle.radio_script.specs.declared.delivery.Delivery.TheVariants.{To}
-use Rattle.radio_script.specs.declared.delivery.Input.{Input}
-use Rattle.radio_script.specs.Given.{TranscriptLine, given}
-use Rattle.radio_floor.specs.declared.labelled.Connection.{Connection}
-use Rattle.radio_floor.specs.ScriptState.{ScriptState, connection_of}
-use Rattle.radio_headline.specs.Course.{Happening, events_in, on, log_on}
-use Rattle.radio_headline.specs.Scripts.{brought, bytes_delivered, bytes_in}
+use Rattle.radio_headline.proofs.Words.{map, if◌then◌else◌, append-nil, flat_map-append, Settings, Lists, Entry, Event, run_after, world_after_all, World, opening, Delivery, To, Input, TranscriptLine, given, Connection}
+use Rattle.radio_headline.proofs.Words.{ScriptState, connection_of, Happening, events_in, on, log_on, brought, bytes_delivered, bytes_in, by_number, WebAnswers}
 use Rattle.radio_headline.proofs.Logs.{entries, log_joined, log_here, log_elsewhere, after_joined, events_joined, events_on, itself, other_number}
 use Rattle.radio_headline.proofs.RunLemmas.{AllNowhere, IsMoment}
 use Rattle.radio_headline.proofs.Connections.{IsSo}
 use Rattle.radio_headline.proofs.LabelLemmas.{given_joined}
-use Rattle.radio_tables.proofs.KeyLaws.{by_number}
-use Rattle.radio_answers.specs.declared.web_answers.WebAnswers.{WebAnswers}
 
 pub brought_joined : (deliveries more : List Delivery) (label : ℕ) → brought (deliveries ++ more) label ≡ brought deliveries label ++ brought more label
 brought_joined deliveries more label = flat_map-append (bytes_delivered label) deliveries more

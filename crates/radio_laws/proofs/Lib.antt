@@ -5,3 +5,4 @@ mod Locality
 mod Seats
 mod Streams
 mod Ends
+mod Words

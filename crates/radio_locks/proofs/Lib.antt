@@ -1,3 +1,4 @@
 pub mod Replies
 mod PassLemmas
 pub mod Threads
+mod Words

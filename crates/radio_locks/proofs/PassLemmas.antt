@@ -1,20 +1,12 @@
 -- The results of calls, and what passes gain.
 use Rattle.std.proofs.Common.{◌≡◌, ℕ, Bool, true, false, List, [], ◌∷◌, ◌++◌, Result, Ok, Err, IfOk, OnErr, refl, ap, sym, subst, ◌∙◌, append_assoc, append-nil}
 use Rattle.std.proofs.lemmas.Bool.{false≢true}
-use Rattle.std.specs.declared.alloc.AllocError.{AllocError}
-use Rattle.radio_events.specs.declared.event.Event.{Event}
-use Rattle.radio_events.specs.declared.event.Event.TheVariants.{Draw}
-use Rattle.radio_events.specs.declared.reply.Reply.{Reply}
-use Rattle.radio_parts_station.specs.World.{World}
+use Rattle.radio_locks.proofs.Words.{AllocError, Event, Draw, Reply, World, IsNotedIn, Own, Made, Elsewhere, IsReplied}
 use Rattle.radio_events.specs.declared.entry.Entry.{Entry}
 use Rattle.radio_book.specs.Receipts.{ReceiptOf, receipt_of}
-use Rattle.radio_book.specs.MountBooks.{IsNotedIn}
-use Rattle.radio_book.specs.declared.mount_book.Own.{Own}
-use Rattle.radio_book.specs.declared.mount_book.Own.TheVariants.{Made, Elsewhere}
 use Rattle.radio_chronicle.specs.Stamps.{stamp}
 use Rattle.radio_chronicle.specs.declared.stamp.Stamp.{Stamp}
 use Rattle.radio_locks.specs.Callers.{IsCalled, IsResultOfCall, IsResultOfStep, MayBeRefused, OwnGains, PassesGainWhatWasApplied}
-use Rattle.radio_locks.specs.Replies.{IsReplied}
 
 pub gained : PassesGainWhatWasApplied
 gained opening before after [] c = ([], c ∙ sym (append-nil before), refl)

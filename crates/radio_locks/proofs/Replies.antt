@@ -1,15 +1,8 @@
 -- Whose reply a call has.
 use Rattle.std.proofs.Common.{Option, None, Some, Result, Ok, Err, IfOk}
 use Rattle.std.proofs.Math.Logic.{∥∥₁_map}
-use Rattle.std.specs.declared.alloc.AllocError.{AllocError}
+use Rattle.radio_locks.proofs.Words.{AllocError, BookOfMount, CanOwn, GivesBack, IsDone, IsReplyHere, Own, Made, Elsewhere, Event, Reply, World, IsReplied, IsRepliedIf, IsReplyOrElsewhere}
 use Rattle.radio_book.specs.ControlLists.{IsControlReply}
-use Rattle.radio_book.specs.MountBooks.{BookOfMount, CanOwn, GivesBack, IsDone, IsReplyHere}
-use Rattle.radio_book.specs.declared.mount_book.Own.{Own}
-use Rattle.radio_book.specs.declared.mount_book.Own.TheVariants.{Made, Elsewhere}
-use Rattle.radio_events.specs.declared.event.Event.{Event}
-use Rattle.radio_events.specs.declared.reply.Reply.{Reply}
-use Rattle.radio_parts_station.specs.World.{World}
-use Rattle.radio_locks.specs.Replies.{IsReplied, IsRepliedIf, IsReplyOrElsewhere}
 use Rattle.radio_locks.specs.Replies.IsReplied.{ByMount, ByControl}
 
 pub tried_by : (opening : World) (before after : BookOfMount) (event : Event) (result : Result Own AllocError) → IfOk result (λ own. GivesBack event own)

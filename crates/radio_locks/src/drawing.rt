@@ -36,7 +36,9 @@ impl<C: Chronicle, H: Origin> Hall<C, H> {
         self.find_draw(rt, pass, id, room)
     }
 
-    /// Draws where the control knows the client, as [`Hall::find`]. Few draws come here, so their event is made here.
+    /// Draws for a client that the pass does not know, or that has left the mount that the pass knows: first where another was found
+    /// last, since listeners are often moved together, and then where the control knows it, as [`Hall::find`]. Few draws come here, so
+    /// their event is made here.
     #[cold]
     #[inline(never)]
     fn find_draw<R: Wait>(
@@ -46,8 +48,16 @@ impl<C: Chronicle, H: Origin> Hall<C, H> {
         id: u64,
         room: u32,
     ) -> Result<Reply, OutOfMemory>
-        ensures { IsResultOfStep C.KEEPS H.opening pass.old (Draw id room) result pass.new }
+        requires { C.KEEPS ≡ false }
+        ensures legal { IfOk result (λ reply. ∥ IsReplied H.opening (Draw id room) reply ∥₁) }
+        ensures pass { pass.new ≡ pass.old }
     {
+        if let Some(list) = pass.recent_list() {
+            if let Some(reply) = self.draw_at(rt, list, id, room)? {
+                pass.remember(id, list);
+                return Ok(reply);
+            }
+        }
         self.find(rt, pass, id, Event::Draw { id, room })
     }
 

@@ -1,24 +1,12 @@
 -- What a pull applied when memory was refused, as the first of the entries of a whole turn.
 use Rattle.std.proofs.Common.{◌≡◌, inl, inr, ◌<◌, ℕ, arith, List, [], ◌∷◌, ◌++◌, Option, None, Some, length, refl, sym, ap, subst, ◌∙◌, append_assoc}
-use Rattle.radio_connections.proofs.DeedChains.{chain_one, chain_then}
-use Rattle.radio_events.specs.declared.entry.Entry.{Entry}
-use Rattle.radio_events.specs.declared.event.Event.{Event}
-use Rattle.radio_events.specs.declared.event.Event.TheVariants.{RelayDown}
+use Rattle.radio_masters.proofs.Words.{chain_one, chain_then, Entry, Event, RelayDown, State, Running, Shut, entry, Chain, Steps, AppliesAtMost, AreOfEvent, AreOfEventAnd, AreOfEventIf, AreOfItems, AreOfPulled}
+use Rattle.radio_masters.proofs.Words.{AreOfTurn, IsDownIfShut, IsGoingDown, number_after, probe_of, Asks, AsksAtMost, AsksAtMostIf, BringsAtMost, Follows, OnwardsAtMost, TakesAtMost, Pulling, NumberedState}
+use Rattle.radio_masters.proofs.Words.{state_after_reply, event_for, running_pull, PullItem, items_of, GoesOn}
 use Rattle.radio_events.specs.declared.reply.Reply.{Reply}
 use Rattle.radio_events.specs.declared.reply.Reply.TheVariants.{Stray}
-use Rattle.radio_events.specs.declared.state.State.{State}
-use Rattle.radio_events.specs.declared.state.State.TheVariants.{Running, Shut}
-use Rattle.radio_events.specs.Events.{entry}
-use Rattle.radio_events.specs.Servers.{Chain, Steps}
-use Rattle.radio_masters.specs.Pulls.{AppliesAtMost}
 use Rattle.radio_masters.proofs.PullEntries.{event_entries}
-use Rattle.radio_relay.specs.Applied.{AreOfEvent, AreOfEventAnd, AreOfEventIf, AreOfItems, AreOfPulled, AreOfTurn, IsDownIfShut, IsGoingDown}
-use Rattle.radio_relay.specs.Applied.{number_after, probe_of}
-use Rattle.radio_relay.specs.Course.{Asks, AsksAtMost, AsksAtMostIf, BringsAtMost, Follows, OnwardsAtMost, TakesAtMost}
-use Rattle.radio_relay.specs.Pulling.{Pulling, NumberedState, state_after_reply, event_for, running_pull}
-use Rattle.radio_relay.specs.declared.items.PullItem.{PullItem}
-use Rattle.radio_relay.specs.Items.{items_of}
-use Rattle.radio_relay.specs.Pulled.{GoesOn, PullProgress as AnswerStanding}
+use Rattle.radio_relay.specs.Pulled.{PullProgress as AnswerStanding}
 
 abbrev nil : List Entry
 nil = []

@@ -1,11 +1,7 @@
 -- What a turn over a line came to.
 use Rattle.std.proofs.Common.{◌≡◌, subst, ℕ, suc, List, ◌++◌}
-use Rattle.radio_connections.specs.Lines.{Calls}
-use Rattle.radio_events.specs.Servers.{Steps}
-use Rattle.radio_masters.specs.declared.mount_pull.PullTurn.{PullTurn}
+use Rattle.radio_masters.proofs.Words.{Calls, Steps, PullTurn, ListOver, Comes, GoesOnHere, IsCalledIn, IsPullTurn, FrontIsTaken, KeepsFront, PullOver, front_with}
 use Rattle.radio_masters.specs.declared.mount_pull.PullTurn.TheVariants.{Running, Shut, Closed, Failed, OutOfMemory}
-use Rattle.radio_masters.specs.ListAnswers.{ListOver}
-use Rattle.radio_masters.specs.Pulls.{Comes, GoesOnHere, IsCalledIn, IsPullTurn, FrontIsTaken, KeepsFront, PullOver, front_with}
 
 -- a turn that does not end by its line, and has read from it once
 pub called_on : (turn : PullTurn) (before now : Calls) → GoesOnHere turn → now.reads ≡ suc before.reads → IsCalledIn turn before now

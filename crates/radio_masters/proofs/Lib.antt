@@ -2,3 +2,4 @@ mod Called
 mod Popped
 mod PullEntries
 mod AtMostEntries
+mod Words

@@ -2,7 +2,7 @@
 use Rattle.std.proofs.Common.{◌≡◌, ◌<◌, ℕ, arith, sym, ◌∙◌, ap, List, [], ◌∷◌, ◌++◌, length, take, Option, None, Some, IfSome}
 use Rattle.std.specs.Option.{IsSome}
 use Rattle.std.proofs.lemmas.Bool.{false≢true}
-use Rattle.std.proofs.lemmas.List.{take-append-le, length-append}
+use Rattle.radio_masters.proofs.Words.{take-append-le, length-append}
 
 -- the front is the same without the last element, if that comes after the front
 pub front_popped : {X : Type 0} (n : ℕ) (xs ys : List X) (last : Option X) → IsSome last → IfSome last (λ x. xs ≡ ys ++ x ∷ []) → n < length xs

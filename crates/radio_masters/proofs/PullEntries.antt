@@ -1,21 +1,9 @@
 -- What a pull applies step by step, as a list of entries.
 use Rattle.std.proofs.Common.{◌≡◌, ◌<◌, ℕ, arith, List, [], ◌∷◌, ◌++◌, Option, None, Some, length, refl}
-use Rattle.radio_connections.proofs.DeedChains.{chain_one, chain_then}
-use Rattle.radio_events.specs.declared.entry.Entry.{Entry}
-use Rattle.radio_events.specs.declared.event.Event.{Event}
-use Rattle.radio_events.specs.declared.event.Event.TheVariants.{RelayDown}
-use Rattle.radio_events.specs.declared.state.State.{State}
-use Rattle.radio_events.specs.declared.state.State.TheVariants.{Running, Shut}
-use Rattle.radio_events.specs.Events.{entry}
-use Rattle.radio_events.specs.Servers.{Chain, Steps}
-use Rattle.radio_masters.specs.Pulls.{Comes, AppliesAll, turn_by_state}
-use Rattle.radio_relay.specs.Applied.{AreOfBytes, AreOfEvent, AreOfEventAnd, AreOfEventIf, AreOfItems, AreOfPulled, IsDownIfShut, IsGoingDown}
-use Rattle.radio_relay.specs.Applied.{probe_of}
-use Rattle.radio_relay.specs.Course.{Asks, AsksIf, BringsItems, ComesOf, Follows, GoesDown, GoesDownIfShut, Onwards, Takes}
-use Rattle.radio_relay.specs.Pulling.{Pulling, NumberedState, event_for}
-use Rattle.radio_relay.specs.declared.items.PullItem.{PullItem}
-use Rattle.radio_relay.specs.Items.{items_of}
-use Rattle.radio_relay.specs.Pulled.{GoesOn, PullProgress as AnswerStanding, Stops}
+use Rattle.radio_masters.proofs.Words.{chain_one, chain_then, Entry, Event, RelayDown, State, Running, Shut, entry, Chain, Steps, Comes, AppliesAll, turn_by_state, AreOfBytes, AreOfEvent, AreOfEventAnd, AreOfEventIf}
+use Rattle.radio_masters.proofs.Words.{AreOfItems, AreOfPulled, IsDownIfShut, IsGoingDown, probe_of, Asks, AsksIf, BringsItems, ComesOf, Follows, GoesDown, GoesDownIfShut, Onwards, Takes, Pulling, NumberedState}
+use Rattle.radio_masters.proofs.Words.{event_for, PullItem, items_of, GoesOn, Stops}
+use Rattle.radio_relay.specs.Pulled.{PullProgress as AnswerStanding}
 
 module _ {S : Type 0} (steps : Steps S) where
   -- entries of this kind were applied, one after another

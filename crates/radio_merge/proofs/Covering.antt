@@ -1,15 +1,10 @@
 -- What is no entry of a merge lies in the range of a cut.
 use Rattle.std.proofs.Common.{◌≡◌, ◌⊎◌, inl, inr, ℕ, zero, suc, ◌+◌, ◌-◌, ◌<◌, ◌≤◌, List, [], ◌∷◌, ◌++◌, Option, Some, None, length, replicate, refl, sym, ap, subst, ◌∙◌, arith, append_assoc}
-use Rattle.std.specs.Prelude.{slice_get, slice_set, unwrap_or}
+use Rattle.radio_merge.proofs.Words.{slice_get, slice_set, unwrap_or, Entry, ControlLine, MountItem, Stamp, Positions, PastCuts, Merged, Begins, LeavesOut, TakesOwn, TakesControl}
 use Rattle.std.specs.Option.{option_map}
 use Rattle.std.proofs.lemmas.Bool.{false≢true}
 use Rattle.std.proofs.lemmas.Option.{slice_get_within, slice_get-map}
-use Rattle.radio_events.specs.declared.entry.Entry.{Entry}
-use Rattle.radio_chronicle.specs.declared.line.ControlLine.{ControlLine}
 use Rattle.radio_chronicle.specs.declared.line.ControlLine.TheVariants.{Cut, Made}
-use Rattle.radio_parts_mount.specs.declared.item.MountItem.{MountItem}
-use Rattle.radio_chronicle.specs.declared.stamp.Stamp.{Stamp}
-use Rattle.radio_merge.specs.Merged.{Positions, PastCuts, Merged, Begins, LeavesOut, TakesOwn, TakesControl}
 use Rattle.radio_merge.specs.Covered.{IsMade, InCut, TheControlMakesTheRest}
 
 some_same : (a b : ℕ) → Some a ≡ Some b → a ≡ b

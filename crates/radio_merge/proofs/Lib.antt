@@ -1,3 +1,4 @@
 pub mod Covering
 mod Steppings
 pub mod Wholes
+mod Words

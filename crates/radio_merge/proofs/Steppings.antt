@@ -1,19 +1,10 @@
 -- A core steps through one entry more.
 use Rattle.std.proofs.Common.{◌≡◌, ℕ, ◌+◌, ◌<◌, take, get_or, length, List, [], ◌∷◌, ◌++◌, Result, Ok, IfOk, refl, sym, ap, subst, ◌∙◌}
-use Rattle.std.proofs.lemmas.List.{take_more}
-use Rattle.std.proofs.lemmas.Result.{IfOk-at_ok}
+use Rattle.radio_merge.proofs.Words.{take_more, IfOk-at_ok, Entry, World, ControlLine, MountItem, Stamp, Family, Positions, Merged, Begins, beginning, IsSoFar}
 use Rattle.radio_events.specs.declared.reply.Reply.{Reply}
-use Rattle.radio_events.specs.declared.entry.Entry.{Entry}
-use Rattle.radio_parts_station.specs.World.{World}
 use Rattle.radio_parts.specs.Step.{Step, reply_to, world_after}
 use Rattle.radio_core.specs.Represents.{Represents}
-use Rattle.radio_chronicle.specs.declared.line.ControlLine.{ControlLine}
-use Rattle.radio_parts_mount.specs.declared.item.MountItem.{MountItem}
-use Rattle.radio_chronicle.specs.declared.stamp.Stamp.{Stamp}
 use Rattle.radio_chronicle.specs.History.{world_of, IsRun}
-use Rattle.radio_merge.specs.declared.family.Family.{Family}
-use Rattle.radio_merge.specs.Merged.{Positions, Merged, Begins, beginning}
-use Rattle.radio_merge.specs.Replays.{IsSoFar}
 
 world_of_more : (w : World) (history : List Entry) (e : Entry) → world_of w (history ++ e ∷ []) ≡ world_after (world_of w history) e.event
 world_of_more w [] e = refl

@@ -1,41 +1,19 @@
 -- what all mounts have in common changes by the event and its reply alone
 use Rattle.std.proofs.Common.{◌≡◌, ◌∙◌, ◌+◌, Bool, true, false, ℕ, Option, None, Some, List, [], ◌∷◌, refl, ap, sym, subst}
-use Rattle.std.specs.Prelude.{fold, nat_lt, if◌then◌else◌}
-use Rattle.radio_parts_changes.specs.Changes.{answered, before_silence, session_begun, session_killed, session_raised, session_silenced, silent_in}
-use Rattle.radio_parts_changes.specs.KeptChanges.{kept_changed}
-use Rattle.radio_parts_changes.specs.declared.change.Change.{Change}
-use Rattle.radio_parts_changes.specs.declared.change.Change.TheVariants.{Obey}
+use Rattle.radio_parts.proofs.Words.{fold, nat_lt, if◌then◌else◌, answered, before_silence, session_begun, session_killed, session_raised, session_silenced, silent_in, kept_changed, Change, Obey, counts_by, nobody}
+use Rattle.radio_parts.proofs.Words.{CanStep, hears_clock, Closes, OfClient, OfRelay, said_of, Common, common_after, common_asked, common_at, common_done, common_numbered, common_of, common_told, moves_to, IsMove}
+use Rattle.radio_parts.proofs.Words.{IsShownBy, IsListing, IsAtPath, planned, told_counts, with_counts, outcome, Way, Misplaced, IsFinished, IsDenied, IsRefused, IsAdmitted, Begins, ComesUp, Receives, SetsTitle}
+use Rattle.radio_parts.proofs.Words.{TakesSeat, HandsOut, Ends, EndsAndLeaves, Leaves, GoesDown, Obeys, Shows, HasPassed, Ticks, Outcome, Asked, MoveClients, KillClient, KillSource, SetFallback, AddUser, DeleteUser}
+use Rattle.radio_parts.proofs.Words.{Event, Arrive, Source, Push, SourceEnd, Title, Listen, Draw, Command, Leave, RelayUp, RelayDown, Clock, Reply, Arrived, Feeding, Seated, Drawn, Noted, Deny, Stray, ReplyText, Carried}
+use Rattle.radio_parts.proofs.Words.{StationState, World, Session, session_of, Rule}
 use Rattle.radio_parts.proofs.PlannedLemmas.{planned_so, clock_planned}
 use Rattle.radio_parts.proofs.Ways.{way_of}
-use Rattle.radio_parts_changes.specs.Counts.{counts_by, nobody}
 use Rattle.radio_parts.proofs.CalledStation.{station_called}
 use Rattle.radio_parts.specs.Allowed.{IsCommanded}
-use Rattle.radio_parts.specs.CanStep.{CanStep}
-use Rattle.radio_parts.specs.Clock.{hears_clock}
-use Rattle.radio_parts.specs.Closing.{Closes, OfClient, OfRelay}
-use Rattle.radio_parts.specs.Command.{said_of}
-use Rattle.radio_parts.specs.Common.{Common, common_after, common_asked, common_at, common_done, common_numbered, common_of, common_told}
-use Rattle.radio_parts.specs.Draw.{moves_to, IsMove}
-use Rattle.radio_parts.specs.Pages.{IsShownBy, IsListing, IsAtPath}
-use Rattle.radio_parts.specs.Planned.{planned, told_counts, with_counts}
-use Rattle.radio_parts.specs.Step.{outcome}
-use Rattle.radio_parts.specs.Ways.{Way, Misplaced, IsFinished, IsDenied, IsRefused, IsAdmitted, Begins, ComesUp, Receives, SetsTitle, TakesSeat, HandsOut, Ends}
-use Rattle.radio_parts.specs.Ways.{EndsAndLeaves, Leaves, GoesDown, Obeys, Shows, HasPassed, Ticks}
-use Rattle.radio_parts.specs.declared.outcome.Outcome.{Outcome}
-use Rattle.radio_events.specs.declared.command.Asked.{Asked}
 use Rattle.radio_events.specs.declared.command.Command.{Command as TheCommand}
-use Rattle.radio_events.specs.declared.command.Command.TheVariants.{MoveClients, KillClient, KillSource, SetTitle as NewTitle, SetFallback, AddUser, DeleteUser}
-use Rattle.radio_events.specs.declared.event.Event.{Event}
-use Rattle.radio_events.specs.declared.event.Event.TheVariants.{Arrive, Source, Push, SourceEnd, Title, Listen, Draw, Command, Leave, RelayUp, RelayDown, Clock}
-use Rattle.radio_events.specs.declared.reply.Reply.{Reply}
-use Rattle.radio_events.specs.declared.reply.Reply.TheVariants.{Arrived, Feeding, Seated, Drawn, Noted, Text as SaysText, Deny, Finished, Stray}
-use Rattle.radio_events.specs.declared.text.ReplyText.{ReplyText}
-use Rattle.radio_fallback.specs.declared.moves.Carried.{Carried}
-use Rattle.radio_parts_station.specs.StationState.{StationState}
+use Rattle.radio_events.specs.declared.command.Command.TheVariants.{SetTitle as NewTitle}
+use Rattle.radio_events.specs.declared.reply.Reply.TheVariants.{Text as SaysText, Finished}
 use Rattle.radio_parts_station.specs.Streams.{shown_for}
-use Rattle.radio_parts_station.specs.World.{World}
-use Rattle.radio_parts_mount.specs.Sessions.{Session, session_of}
-use Rattle.radio_policy.specs.declared.rule.Rule.{Rule}
 
 module _ (common : Common) where
   -- a reply that gives no number, no text and no new time changes nothing

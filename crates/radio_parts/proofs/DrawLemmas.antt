@@ -1,16 +1,6 @@
 -- a draw depends on the listener's seat, and on the session at its mount
 use Rattle.std.proofs.Common.{◌≡◌, ℕ, Option, None, Some, refl, ap}
-use Rattle.std.specs.Option.{option_map_or}
-use Rattle.radio_seats_rows.specs.declared.seat.Seat.{Seat}
-use Rattle.radio_seats_rows.specs.Seats.{seat_of}
-use Rattle.radio_events.specs.declared.reply.Reply.TheVariants.{Stray}
-use Rattle.radio_parts_station.specs.StationState.{StationState}
-use Rattle.radio_parts_station.specs.Waiting.{heard_at}
-use Rattle.radio_parts_station.specs.World.{World, standing_of}
-use Rattle.radio_parts_changes.specs.declared.change.Change.TheVariants.{Nothing}
-use Rattle.radio_parts.specs.declared.outcome.Outcome.{Outcome}
-use Rattle.radio_parts.specs.Draw.{hands_out, draws_from, draws}
-use Rattle.radio_parts.specs.Outcomes.{says, if_sitting}
+use Rattle.radio_parts.proofs.Words.{option_map_or, Seat, seat_of, Stray, StationState, heard_at, World, standing_of, Nothing, Outcome, hands_out, draws_from, draws, says, if_sitting}
 
 abbrev pub hands_out_at : StationState → ℕ → ℕ → Option Seat → Outcome
 hands_out_at station id room None = says Stray Nothing

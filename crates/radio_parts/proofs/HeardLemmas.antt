@@ -1,15 +1,10 @@
 -- the session that listeners of a mount draw: its own, or silence while it waits for one
 use Rattle.std.proofs.Common.{◌≡◌, Bool, true, false, ℕ, Option, Some, None, List, refl, ap, sym, ◌∙◌}
-use Rattle.std.specs.Prelude.{if◌then◌else◌}
-use Rattle.std.specs.Option.{option_map_or, option_or}
+use Rattle.radio_parts.proofs.Words.{if◌then◌else◌, option_map_or, option_or, Session, session_of, live_end, live_number, StationState, is_on_demand, silence_at, silence_of, heard_at}
 use Rattle.radio_settings_values.specs.declared.settings.Settings.{Settings}
 use Rattle.radio_parts_mount.specs.StatePart.{end_in}
-use Rattle.radio_parts_mount.specs.Sessions.{Session, session_of}
 use Rattle.radio_parts_mount.specs.Stream.{end_of}
 use Rattle.radio_parts_mount.proofs.SessionLookups.{found_named}
-use Rattle.radio_parts_station.specs.Facts.{live_end, live_number}
-use Rattle.radio_parts_station.specs.StationState.{StationState}
-use Rattle.radio_parts_station.specs.Waiting.{is_on_demand, silence_at, silence_of, heard_at}
 
 module _ (station : StationState) (mount : List ℕ) where
   pub heard_live : (session : Session) → session_of station.live mount ≡ Some session → heard_at station mount ≡ Some session

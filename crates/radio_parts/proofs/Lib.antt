@@ -9,3 +9,4 @@ mod SeatedDraws
 pub mod SmallOutcomes
 pub mod Threads
 pub mod Ways
+mod Words

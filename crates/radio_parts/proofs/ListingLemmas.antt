@@ -1,20 +1,10 @@
 -- What is shown is no short text, so it has no number of those who were moved.
 use Rattle.std.proofs.Common.{◌≡◌, refl}
-use Rattle.radio_events.specs.declared.command.Listing.{Listing}
-use Rattle.radio_events.specs.declared.command.Listing.TheVariants.{Status, Stats, Mounts, Clients, Streams}
-use Rattle.radio_events.specs.declared.text.ReplyText.{ReplyText}
+use Rattle.radio_parts.proofs.Words.{Listing, Status, Stats, Mounts, Clients, Streams, ReplyText, shown, IsShownBy, IsListing, IsAtPath, page_at, told_counts, WebPath, Event, World, Carried}
 use Rattle.radio_events.specs.declared.text.ReplyText.TheVariants.{Done, Moved, Ended, Json, Streams as StreamList, Public, Page}
-use Rattle.radio_parts_facts.specs.Listings.{shown}
-use Rattle.radio_parts.specs.Pages.{IsShownBy, IsListing, IsAtPath}
-use Rattle.radio_parts_facts.specs.Pages.{page_at}
-use Rattle.radio_parts.specs.Planned.{told_counts}
-use Rattle.radio_settings_values.specs.declared.web.WebPath.{WebPath}
 use Rattle.radio_settings_values.specs.declared.web.WebPath.TheVariants.{IcecastStatus, Page as AtPage}
-use Rattle.radio_events.specs.declared.event.Event.{Event}
 use Rattle.radio_events.specs.declared.event.PageVisit.{PageVisit}
 use Rattle.radio_events.specs.Texts.{IsShort}
-use Rattle.radio_parts_station.specs.World.{World}
-use Rattle.radio_fallback.specs.declared.moves.Carried.{Carried}
 
 module _ (w : World) where
   pub no_short : (listing : Listing) → IsShort (shown w listing) → ⊥

@@ -1,25 +1,11 @@
 -- the outcome as planned, with the numbers of listeners moved or finished, is the outcome of the event
 use Rattle.std.proofs.Common.{◌≡◌, ◌∙◌, ℕ, refl, ap, sym}
 use Rattle.radio_events.specs.declared.command.Command.{Command as TheCommand}
-use Rattle.radio_events.specs.declared.command.Command.TheVariants.{MoveClients, KillClient, KillSource, SetTitle, SetFallback, AddUser, DeleteUser}
-use Rattle.radio_events.specs.declared.command.CommandRequest.{CommandRequest}
-use Rattle.radio_events.specs.declared.event.Event.{Event}
-use Rattle.radio_events.specs.declared.event.Event.TheVariants.{Arrive, Source, Push, SourceEnd, Title, Listen, Draw, Command, Leave, RelayUp, RelayDown, Clock}
-use Rattle.radio_events.specs.declared.reply.Reply.{Reply}
+use Rattle.radio_parts.proofs.Words.{MoveClients, KillClient, KillSource, SetTitle, SetFallback, AddUser, DeleteUser, CommandRequest, Event, Arrive, Source, Push, SourceEnd, Title, Listen, Draw, Command, Leave, RelayUp}
+use Rattle.radio_parts.proofs.Words.{RelayDown, Clock, Reply, ReplyText, Carried, Outcome, obeys, hears_clock, draws, IsShownBy, counted, nobody, told_counts, with_counts, uncounted, planned, outcome, reply_to, Way}
+use Rattle.radio_parts.proofs.Words.{Misplaced, IsFinished, IsDenied, IsRefused, IsAdmitted, Begins, ComesUp, Receives, SetsTitle, TakesSeat, HandsOut, Ends, EndsAndLeaves, Leaves, GoesDown, Obeys, Shows, HasPassed}
+use Rattle.radio_parts.proofs.Words.{Ticks, World}
 use Rattle.radio_events.specs.declared.reply.Reply.TheVariants.{Text as SaysText}
-use Rattle.radio_events.specs.declared.text.ReplyText.{ReplyText}
-use Rattle.radio_fallback.specs.declared.moves.Carried.{Carried}
-use Rattle.radio_parts.specs.declared.outcome.Outcome.{Outcome}
-use Rattle.radio_parts.specs.Command.{obeys}
-use Rattle.radio_parts.specs.Clock.{hears_clock}
-use Rattle.radio_parts.specs.Draw.{draws}
-use Rattle.radio_parts.specs.Pages.{IsShownBy}
-use Rattle.radio_parts_changes.specs.Counts.{counted, nobody}
-use Rattle.radio_parts.specs.Planned.{told_counts, with_counts, uncounted, planned}
-use Rattle.radio_parts.specs.Step.{outcome, reply_to}
-use Rattle.radio_parts.specs.Ways.{Way, Misplaced, IsFinished, IsDenied, IsRefused, IsAdmitted, Begins, ComesUp, Receives, SetsTitle, TakesSeat, HandsOut, Ends}
-use Rattle.radio_parts.specs.Ways.{EndsAndLeaves, Leaves, GoesDown, Obeys, Shows, HasPassed, Ticks}
-use Rattle.radio_parts_station.specs.World.{World}
 use Rattle.radio_parts.proofs.ListingLemmas.{shown_untold}
 use Rattle.radio_parts.proofs.Ways.{way_of}
 

@@ -1,20 +1,8 @@
 -- the outcome of a draw, by a client with a seat and by a client without one
 use Rattle.std.proofs.Common.{◌≡◌, ℕ, List, Option, None, Some, refl, ap, sym, ◌∙◌}
-use Rattle.radio_seats_rows.specs.declared.seat.Listener.{Listener}
-use Rattle.radio_seats_rows.specs.declared.seat.Seat.{Seat}
-use Rattle.radio_seats_rows.specs.Seats.{seat_of}
-use Rattle.radio_parts_station.specs.StationState.{StationState}
-use Rattle.radio_parts_station.specs.Waiting.{heard_at}
-use Rattle.radio_parts_station.specs.World.{World, standing_of}
-use Rattle.radio_parts_station.specs.declared.standing.Standing.{Standing}
-use Rattle.radio_parts_station.specs.declared.standing.Standing.TheVariants.{Unknown, Undecided, Feeds, Sits, Answered, Finished}
-use Rattle.radio_parts_changes.specs.declared.change.Change.TheVariants.{Nothing}
-use Rattle.radio_parts_mount.specs.Sessions.{session_of}
+use Rattle.radio_parts.proofs.Words.{Listener, Seat, seat_of, StationState, heard_at, World, standing_of, Standing, Unknown, Undecided, Feeds, Sits, Answered, Finished, Nothing, session_of, Outcome, MayDraw, hands_out}
+use Rattle.radio_parts.proofs.Words.{draws, if_sitting, out_of_place}
 use Rattle.radio_parts_mount.specs.Steps.{IsKept}
-use Rattle.radio_parts.specs.declared.outcome.Outcome.{Outcome}
-use Rattle.radio_parts.specs.CanStep.{MayDraw}
-use Rattle.radio_parts.specs.Draw.{hands_out, draws}
-use Rattle.radio_parts.specs.Outcomes.{if_sitting, out_of_place}
 use Rattle.radio_parts.proofs.DrawLemmas.{hands_out_at, draws_so}
 
 -- a client with a seat draws the data at its place

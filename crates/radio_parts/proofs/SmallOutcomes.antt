@@ -1,24 +1,9 @@
 -- Events that take no memory: their replies have no text, and their changes need none.
-use Rattle.std.specs.Prelude.{if◌then◌else◌, nat_lt}
+use Rattle.radio_parts.proofs.Words.{if◌then◌else◌, nat_lt, Event, Arrive, Source, Push, SourceEnd, Title, Listen, Draw, Command, Leave, RelayUp, RelayDown, Clock, Outcome, Standing, Unknown, Undecided, Feeds, Sits}
+use Rattle.radio_parts.proofs.Words.{Answered, Finished, Noted, Stray, Nothing, End, Tick, leaves_from, goes_down_from, says, if_feeding, unless_relayed, planned, ChangeTakesNoMemory, outcome, EventTakesNoMemory, World}
+use Rattle.radio_parts.proofs.Words.{standing_of, has_relay, CanStep}
 use Rattle.std.proofs.Common.{◌≡◌, Bool, true, false, ℕ, List, sym, subst}
-use Rattle.radio_events.specs.declared.event.Event.{Event}
-use Rattle.radio_events.specs.declared.event.Event.TheVariants.{Arrive, Source, Push, SourceEnd, Title, Listen, Draw, Command, Leave}
-use Rattle.radio_events.specs.declared.event.Event.TheVariants.{RelayUp, RelayDown, Clock}
-use Rattle.radio_parts.specs.declared.outcome.Outcome.{Outcome}
-use Rattle.radio_parts_station.specs.declared.standing.Standing.{Standing}
-use Rattle.radio_parts_station.specs.declared.standing.Standing.TheVariants.{Unknown, Undecided, Feeds, Sits, Answered, Finished}
-use Rattle.radio_events.specs.declared.reply.Reply.TheVariants.{Noted, Stray}
-use Rattle.radio_parts_changes.specs.declared.change.Change.TheVariants.{Nothing, End, Tick}
-use Rattle.radio_parts.specs.Leave.{leaves_from}
-use Rattle.radio_parts.specs.RelayDown.{goes_down_from}
-use Rattle.radio_parts.specs.Outcomes.{says, if_feeding, unless_relayed}
 use Rattle.radio_events.specs.Replies.{HoldsNoText}
-use Rattle.radio_parts.specs.Planned.{planned}
-use Rattle.radio_parts_changes.specs.Changes.{ChangeTakesNoMemory}
-use Rattle.radio_parts.specs.Step.{outcome}
-use Rattle.radio_events.specs.Events.{EventTakesNoMemory}
-use Rattle.radio_parts_station.specs.World.{World, standing_of, has_relay}
-use Rattle.radio_parts.specs.CanStep.{CanStep}
 
 -- its reply has no text, and its change needs no memory
 abbrev pub IsSmall : Outcome → Type 0

@@ -1,66 +1,30 @@
 -- each event ends in one of the ways
 use Rattle.std.proofs.Common.{◌≡◌, true, false, ℕ, Bool, ◌==◌, not, ◌&&◌, Option, Some, None, is_some, List, [], ◌∷◌, length, refl, ap, sym, subst, ◌∙◌}
-use Rattle.std.specs.Prelude.{if◌then◌else◌, nat_lt}
-use Rattle.radio_policy.specs.declared.rule.Rule.{Rule}
+use Rattle.radio_parts.proofs.Words.{if◌then◌else◌, nat_lt, Rule, Verdict, Allow, row, source_rows, relay_rows, listen_rows, verdict_in, Peer, WebPath, ListenRequest, Event, Arrive, Source, Push, SourceEnd, Title}
+use Rattle.radio_parts.proofs.Words.{Listen, Draw, Command, Leave, RelayUp, RelayDown, Clock, StationState, Change, Nothing, Answer, End, Tick, Outcome, Deny, Noted, Stray, Seat, Landing, Standing, Unknown, Undecided}
+use Rattle.radio_parts.proofs.Words.{Feeds, Sits, Answered, Finished, World, standing_of, has_relay, largest_number, is_limit_reached, is_known, sight_of, arrive_facts, source_facts_at, relay_facts_at, rows_to_arrive}
+use Rattle.radio_parts.proofs.Words.{rows_to_feed, rows_to_raise, names_mount, rows_to_push, rows_to_listen, walks_to, walk_stops, says, on_verdict, out_of_place, if_undecided, if_feeding, unless_relayed, if_sitting}
+use Rattle.radio_parts.proofs.Words.{takes_seat, sits_where, shown, IsListing, IsAtPath, asks_by, page_at, hands_out, OfClient, OfRelay, leaves_from, goes_down_from, Asked, CommandRequest, does_asked, rows_to_command}
+use Rattle.radio_parts.proofs.Words.{seat_of, Session, session_of, outcome, Way, Misplaced, IsFinished, IsDenied, IsRefused, IsAdmitted, Begins, ComesUp, Receives, SetsTitle, TakesSeat, HandsOut, Ends, EndsAndLeaves}
+use Rattle.radio_parts.proofs.Words.{Leaves, GoesDown, Obeys, Shows, HasPassed, Ticks, rows_for, IsUndecided, client_in, heard_at}
 use Rattle.radio_policy.specs.declared.rule.Rule.TheVariants.{AddressDenied, AddressNotAllowed, TooManyClients, NumbersSpent}
-use Rattle.radio_policy.specs.declared.judgement.Verdict.{Verdict}
-use Rattle.radio_policy.specs.declared.judgement.Verdict.TheVariants.{Allow, Deny as Denied}
-use Rattle.radio_policy.specs.Table.{row, source_rows, relay_rows, listen_rows}
-use Rattle.radio_policy.specs.Verdicts.{verdict_in}
-use Rattle.radio_addr.specs.declared.peer.Peer.{Peer}
-use Rattle.radio_settings_values.specs.declared.web.WebPath.{WebPath}
+use Rattle.radio_policy.specs.declared.judgement.Verdict.TheVariants.{Deny as Denied}
 use Rattle.radio_values.specs.MountName.{is_mount_name}
 use Rattle.radio_settings_values.specs.Web.{web_path}
 use Rattle.radio_access.specs.Lists.{passes}
 use Rattle.radio_events.specs.declared.event.SourceRequest.{SourceRequest}
-use Rattle.radio_events.specs.declared.event.ListenRequest.{ListenRequest}
-use Rattle.radio_events.specs.declared.event.Event.{Event}
-use Rattle.radio_events.specs.declared.event.Event.TheVariants.{Arrive, Source, Push, SourceEnd, Title, Listen, Draw, Command, Leave}
-use Rattle.radio_events.specs.declared.event.Event.TheVariants.{RelayUp, RelayDown, Clock}
 use Rattle.radio_values.specs.declared.field.Shown.{Shown}
-use Rattle.radio_parts_station.specs.StationState.{StationState}
-use Rattle.radio_parts_changes.specs.declared.change.Change.{Change}
-use Rattle.radio_parts_changes.specs.declared.change.Change.TheVariants.{Nothing, Answer, End, Tick}
-use Rattle.radio_parts.specs.declared.outcome.Outcome.{Outcome}
-use Rattle.radio_events.specs.declared.reply.Reply.TheVariants.{Deny, Noted, Stray}
-use Rattle.radio_seats_rows.specs.declared.seat.Seat.{Seat}
 use Rattle.radio_fallback.specs.declared.walking.WalkFinding.{WalkFinding}
-use Rattle.radio_fallback.specs.declared.walking.Landing.{Landing}
 use Rattle.radio_fallback.specs.declared.walking.Landing.TheVariants.{Lands, Stops}
 use Rattle.radio_fallback.specs.Walk.{MaySit, found_at, stop_in}
 use Rattle.radio_fallback.proofs.TurnLemmas.{lands_where_he_fits}
-use Rattle.radio_parts_station.specs.declared.standing.Standing.{Standing}
-use Rattle.radio_parts_station.specs.declared.standing.Standing.TheVariants.{Unknown, Undecided, Feeds, Sits, Answered, Finished}
-use Rattle.radio_parts_station.specs.World.{World, standing_of, has_relay}
-use Rattle.radio_parts_station.specs.Facts.{largest_number, is_limit_reached, is_known, sight_of, arrive_facts, source_facts_at, relay_facts_at, rows_to_arrive, rows_to_feed, rows_to_raise, names_mount}
-use Rattle.radio_parts_station.specs.Facts.{rows_to_push, rows_to_listen, walks_to, walk_stops}
-use Rattle.radio_parts.specs.Outcomes.{says, on_verdict, out_of_place, if_undecided, if_feeding, unless_relayed, if_sitting}
 use Rattle.radio_parts.specs.Arrive.{admits_client}
 use Rattle.radio_parts.specs.Source.{begins}
 use Rattle.radio_parts.specs.Push.{takes_in}
-use Rattle.radio_parts.specs.Listen.{takes_seat, sits_where}
-use Rattle.radio_parts_facts.specs.Listings.{shown}
-use Rattle.radio_parts.specs.Pages.{IsListing, IsAtPath, asks_by}
-use Rattle.radio_parts_facts.specs.Pages.{page_at}
-use Rattle.radio_parts.specs.Draw.{hands_out}
 use Rattle.radio_parts.proofs.DrawLemmas.{hands_out_at, draws_so}
-use Rattle.radio_parts.specs.Closing.{OfClient, OfRelay}
-use Rattle.radio_parts.specs.Leave.{leaves_from}
 use Rattle.radio_parts.specs.RelayUp.{raises}
-use Rattle.radio_parts.specs.RelayDown.{goes_down_from}
-use Rattle.radio_events.specs.declared.command.Asked.{Asked}
 use Rattle.radio_events.specs.declared.command.Asked.TheVariants.{NoCommand, MissingArgument, Listing as AsksFor, Command as Asks}
-use Rattle.radio_events.specs.declared.command.CommandRequest.{CommandRequest}
-use Rattle.radio_parts.specs.Command.{does_asked}
-use Rattle.radio_parts_facts.specs.CommandFacts.{rows_to_command}
-use Rattle.radio_seats_rows.specs.Seats.{seat_of}
-use Rattle.radio_parts_mount.specs.Sessions.{Session, session_of}
-use Rattle.radio_parts.specs.Step.{outcome}
-use Rattle.radio_parts.specs.Ways.{Way, Misplaced, IsFinished, IsDenied, IsRefused, IsAdmitted, Begins, ComesUp, Receives, SetsTitle, TakesSeat, HandsOut, Ends}
-use Rattle.radio_parts.specs.Ways.{EndsAndLeaves, Leaves, GoesDown, Obeys, Shows, HasPassed, Ticks, rows_for, IsUndecided}
-use Rattle.radio_events.specs.Events.{client_in}
 use Rattle.radio_parts.proofs.HeardLemmas.{heard_named}
-use Rattle.radio_parts_station.specs.Waiting.{heard_at}
 
 module _ (w : World) (event : Event) where
   by_verdict : (denied : Change) (allowed : Outcome) (v : Verdict) → ((rule : Rule) → v ≡ Denied rule → Way w event (says (Deny rule) denied))

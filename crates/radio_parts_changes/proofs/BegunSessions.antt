@@ -1,16 +1,6 @@
 -- a session begins on a mount that has just been prepared
 use Rattle.std.proofs.Common.{◌≡◌, Bool, true, false, ℕ, List, refl, ap, ◌∙◌}
-use Rattle.std.specs.Prelude.{◌||◌}
-use Rattle.std.specs.Str.{bytes_eq}
-use Rattle.std.proofs.lemmas.Slice.Eq.{bytes_eq-Decides}
-use Rattle.radio_settings_values.specs.declared.settings.Settings.{Settings}
-use Rattle.radio_parts_table.specs.Listening.{Listening}
-use Rattle.radio_parts_station.specs.declared.live.LiveMount.{LiveMount}
-use Rattle.radio_parts_station.specs.Live.{AreLive, live_mount, with_live_mount}
-use Rattle.radio_parts_station.proofs.LiveMounts.{one_begun}
-use Rattle.radio_parts_mount.specs.Sessions.{Session, with_session}
-use Rattle.radio_parts_mount.proofs.PreparedLemmas.{begun_prepared}
-use Rattle.radio_seats_rows.specs.SeatTable.{is_prepared}
+use Rattle.radio_parts_changes.proofs.Words.{◌||◌, bytes_eq, bytes_eq-Decides, Settings, Listening, LiveMount, AreLive, live_mount, with_live_mount, one_begun, Session, with_session, begun_prepared, is_prepared}
 use Rattle.radio_parts_changes.proofs.PreparedSeats.{AllPrepared, live_changed, more_is_prepared}
 
 module _ (before prepared : Listening) (mount : List ℕ)

@@ -1,15 +1,15 @@
 -- before anything is due a clock changes the time alone, and a moment from which on all is due stays one, where it is not past what a change brings
 use Rattle.std.proofs.Common.{◌≡◌, ℕ, ◌<◌, ◌≤◌, Bool, true, false, Option, Some, None, List, [], ◌∷◌, min, Result, Ok, Err, OnOk, OnErr, refl, ap, sym, subst, ◌∙◌, arith}
-use Rattle.std.specs.Prelude.{if◌then◌else◌, fold, filter, map, not}
+use Rattle.radio_parts_changes.proofs.Words.{if◌then◌else◌, fold, filter, map, not, HeaderTimeout, TimeOver, SourceSilent, Lagged, Killed, SourceKilled, Each, Each_each, Each_kept, Each_updated, Each_mapped, Each_placed}
+use Rattle.radio_parts_changes.proofs.Words.{Listener, is_listener, by_listener, seated, advanced, lost_by, loses, holds_of, finished_if, with_ended, hears_session, in_session_at, with_session_at, Move, changed}
+use Rattle.radio_parts_changes.proofs.Words.{answered, done, session_ended_by, session_killed, carried_along, session_over, session_ended, called_home, client_gone, before_silence, session_begun, session_raised}
+use Rattle.radio_parts_changes.proofs.Words.{session_silenced, silent_in, ticked, on_air, last_moment, due_at, listener_due, session_due, earliest, due_in_state, client_due, first_due, IsDueFrom, due_by, at_moment}
+use Rattle.radio_parts_changes.proofs.Words.{longer_kept, kept_received, Session, session_of, is_of, by_mount, opened, with_title, lags_behind, has_sat_out, is_silent, not_yet, has_not_sat_out, from_earliest}
+use Rattle.radio_parts_changes.proofs.Words.{due_by_last, duration_by_last, ended_due, heard_due, moved_due, lost_due, none_pass, World, ListenerPassword}
 use Rattle.radio_policy.specs.declared.rule.Rule.{Rule}
-use Rattle.radio_policy.specs.declared.rule.Rule.TheVariants.{HeaderTimeout, TimeOver, SourceSilent, Lagged, Killed, SourceKilled}
 use Rattle.radio_settings_values.specs.Options.{options_for}
-use Rattle.radio_tables.specs.Lists.{Each}
-use Rattle.radio_tables.proofs.EachLaws.{Each_each, Each_kept, Each_updated, Each_mapped, Each_placed}
 use Rattle.radio_seats_rows.specs.declared.seat.Seat.{Seat}
 use Rattle.radio_seats_rows.specs.declared.seat.Seating.TheVariants.{Finished, Sits}
-use Rattle.radio_seats_rows.specs.declared.seat.Listener.{Listener}
-use Rattle.radio_seats_rows.specs.Seats.{is_listener, by_listener, seated, advanced, lost_by, loses, holds_of, finished_if, with_ended, hears_session, in_session_at, with_session_at}
 use Rattle.radio_events.specs.declared.command.Command.{Command}
 use Rattle.radio_events.specs.declared.command.Command.TheVariants.{MoveClients, KillClient, KillSource, SetTitle as NewTitle, SetFallback, AddUser, DeleteUser}
 use Rattle.radio_parts_station.specs.declared.clients.ClientState.{ClientState}
@@ -17,29 +17,15 @@ use Rattle.radio_parts_station.specs.declared.clients.ClientState.TheVariants.{U
 use Rattle.radio_parts_changes.specs.declared.change.Change.{Change}
 use Rattle.radio_parts_changes.specs.declared.change.Change.TheVariants.{Nothing, Answer, Admit, Begin, Raise, Receive, SetTitle, TakeSeat, Advance, End}
 use Rattle.radio_parts_changes.specs.declared.change.Change.TheVariants.{EndAndLeave, Forget, Tick, Obey}
-use Rattle.radio_fallback.specs.declared.moves.Move.{Move}
 use Rattle.radio_fallback.specs.declared.moves.Move.TheVariants.{Ended as SessionEnds, Up, To}
 use Rattle.radio_fallback.proofs.Faring.{each_carried}
-use Rattle.radio_parts_changes.specs.Changes.{changed, answered, done, session_ended_by, session_killed, carried_along, session_over, session_ended, called_home, client_gone, before_silence, session_begun, session_raised}
-use Rattle.radio_parts_changes.specs.Changes.{session_silenced, silent_in, ticked, on_air}
 use Rattle.radio_parts_changes.proofs.PartChanges.{is_on_air}
 use Rattle.radio_parts_station.specs.Clients.{Client, undecided_client, is_client, by_number, with_client_state, in_state}
-use Rattle.radio_parts_mount.specs.Due.{last_moment, due_at, listener_due, session_due, earliest}
-use Rattle.radio_parts_station.specs.Due.{due_in_state, client_due, first_due}
-use Rattle.radio_parts_changes.specs.Due.{IsDueFrom, due_by, at_moment}
 use Rattle.radio_parts_station.specs.Facts.{live_end, sight_of}
-use Rattle.radio_parts_mount.specs.Kept.{longer_kept}
 use Rattle.radio_parts_changes.specs.KeptChanges.{kept_changed}
-use Rattle.radio_parts_station.specs.StationChanges.{kept_received}
-use Rattle.radio_parts_mount.specs.Sessions.{Session, session_of, is_of, by_mount, opened, with_title}
-use Rattle.radio_parts_mount.specs.Timeouts.{lags_behind, has_sat_out, is_silent}
 use Rattle.radio_parts_station.specs.Timeouts.{asks_nothing, asks_too_late, timed_out}
-use Rattle.radio_parts_mount.proofs.DueLemmas.{not_yet, has_not_sat_out, from_earliest, due_by_last, duration_by_last, ended_due, heard_due, moved_due, lost_due}
-use Rattle.radio_parts_mount.proofs.SilentSessions.{none_pass}
-use Rattle.radio_parts_station.specs.World.{World}
 use Rattle.radio_access.specs.Lists.{with_user_at, without_user_at}
 use Rattle.radio_parts_station.specs.Outsiders.{is_shut_out}
-use Rattle.radio_policy.specs.declared.rule.Rule.TheVariants.{ListenerPassword}
 use Rattle.radio_seats_rows.specs.declared.seat.Seating.{Seating}
 
 -- before it is due, nothing has had its time

@@ -1,12 +1,6 @@
 -- the session that a command ends
 use Rattle.std.proofs.Common.{◌≡◌, ℕ, Some, List, ap, sym, ◌∙◌}
-use Rattle.radio_policy.specs.declared.rule.Rule.TheVariants.{SourceKilled}
-use Rattle.radio_parts_station.specs.StationState.{StationState}
-use Rattle.radio_parts_changes.specs.Changes.{session_ended, session_killed}
-use Rattle.radio_parts_station.specs.StationChanges.{finished_in}
-use Rattle.radio_parts_mount.specs.Sessions.{Session, session_of}
-use Rattle.radio_parts_station.specs.World.{World}
-use Rattle.radio_parts_mount.proofs.SessionLookups.{found_named}
+use Rattle.radio_parts_changes.proofs.Words.{SourceKilled, StationState, session_ended, session_killed, finished_in, Session, session_of, World, found_named}
 
 -- its source has the number that it has, and its mount the name
 pub killed_so : (w after : World) (mount : List ℕ) (session : Session) (number : ℕ) (station : StationState) → session_of w.station.live mount ≡ Some session

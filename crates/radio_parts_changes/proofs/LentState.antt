@@ -1,30 +1,12 @@
 -- what holds of the state still holds once a part is lent to it
 use Rattle.std.proofs.Common.{◌≡◌, Bool, true, false, ℕ, suc, ◌≤◌, ◌==◌, min, Option, Some, None, List, [], ◌∷◌, length, Result, Ok, Err, IfOk, OnErr, refl, ap, sym, subst, ◌∙◌, arith}
-use Rattle.std.specs.Prelude.{is_some, map, if◌then◌else◌}
-use Rattle.std.specs.Option.{option_map_or}
-use Rattle.std.specs.Str.{bytes_eq}
+use Rattle.radio_parts_changes.proofs.Words.{is_some, map, if◌then◌else◌, option_map_or, bytes_eq, bytes_eq-Decides, Each, Each_each, Settings, Listener, is_prepared, Listening, client_due, live_mount, AreLive, Registry}
+use Rattle.radio_parts_changes.proofs.Words.{station_state, World, world, LiveMount, Comes, Stays, first_true, second_true, IsInPlace, last_moment, listener_due, session_due, Session, session_of, due_by_last, heard_due}
+use Rattle.radio_parts_changes.proofs.Words.{lost_due, Lagged, IsDueFrom}
 use Rattle.std.proofs.lemmas.Bool.{eqb-true}
-use Rattle.std.proofs.lemmas.Slice.Eq.{bytes_eq-Decides}
-use Rattle.radio_tables.specs.Lists.{Each}
-use Rattle.radio_tables.proofs.EachLaws.{Each_each}
-use Rattle.radio_settings_values.specs.declared.settings.Settings.{Settings}
-use Rattle.radio_seats_rows.specs.declared.seat.Listener.{Listener}
-use Rattle.radio_seats_rows.specs.SeatTable.{is_prepared}
-use Rattle.radio_parts_table.specs.Listening.{Listening}
 use Rattle.radio_parts_table.specs.Lent.{AsBefore, HeardTo, LaggedOut, IsLent, IsSeenAfter}
-use Rattle.radio_parts_station.specs.Due.{client_due}
-use Rattle.radio_parts_station.specs.Live.{live_mount, AreLive}
-use Rattle.radio_parts_station.specs.Registry.{Registry, station_state}
-use Rattle.radio_parts_station.specs.World.{World, world}
-use Rattle.radio_parts_station.specs.declared.live.LiveMount.{LiveMount}
 use Rattle.radio_parts_table.specs.Agree.{AllAgree}
-use Rattle.radio_parts_table.specs.Exchange.{Comes, Stays, first_true, second_true, IsInPlace}
 use Rattle.radio_parts_mount.specs.declared.part.MountPart.{MountPart}
-use Rattle.radio_parts_mount.specs.Due.{last_moment, listener_due, session_due}
-use Rattle.radio_parts_mount.specs.Sessions.{Session, session_of}
-use Rattle.radio_parts_mount.proofs.DueLemmas.{due_by_last, heard_due, lost_due}
-use Rattle.radio_policy.specs.declared.rule.Rule.TheVariants.{Lagged}
-use Rattle.radio_parts_changes.specs.Due.{IsDueFrom}
 use Rattle.radio_parts_changes.specs.Lent.{part_due, IsLentTo}
 use Rattle.radio_parts_changes.proofs.DueLemmas.{due_earlier}
 use Rattle.radio_parts_changes.proofs.PreparedSeats.{AllPrepared}

@@ -6,3 +6,4 @@ mod PreparedSeats
 mod SilentLemmas
 pub mod Threads
 pub mod LentState
+mod Words

@@ -1,17 +1,8 @@
 -- what a block and a title make of one mount's part, told of the whole state
 use Rattle.std.proofs.Common.{◌≡◌, false, ℕ, Some, List, ap, ◌∙◌}
-use Rattle.std.specs.Option.{option_map}
-use Rattle.std.specs.Str.{bytes_eq}
-use Rattle.radio_policy.specs.declared.rule.Rule.TheVariants.{Lagged}
-use Rattle.radio_seats_rows.specs.Seats.{with_ended}
-use Rattle.radio_parts_mount.specs.StatePart.{end_in}
-use Rattle.radio_parts_mount.specs.Sessions.{Session, session_of, longer, fed, with_title}
-use Rattle.radio_parts_mount.specs.Timeouts.{lags_behind}
-use Rattle.radio_parts_mount.proofs.SessionLookups.{beside_fed, beside_titled, is_longer, is_titled}
+use Rattle.radio_parts_changes.proofs.Words.{option_map, bytes_eq, Lagged, with_ended, end_in, Session, session_of, longer, fed, with_title, lags_behind, beside_fed, beside_titled, is_longer, is_titled, received}
+use Rattle.radio_parts_changes.proofs.Words.{retitled, World, laggards_ended, block_received, on_air}
 use Rattle.radio_parts_mount.proofs.PartLemmas.{in_its_place, end_received}
-use Rattle.radio_parts_station.specs.StationChanges.{received, retitled}
-use Rattle.radio_parts_station.specs.World.{World}
-use Rattle.radio_parts_changes.specs.Changes.{laggards_ended, block_received, on_air}
 
 module _ (w : World) (mount : List ℕ) where
   abbrev with_live : List Session → World

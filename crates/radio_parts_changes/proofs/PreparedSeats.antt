@@ -1,25 +1,10 @@
 -- mounts that relays feed on demand are prepared as long as there are listeners, after each change
 use Rattle.std.proofs.Common.{◌≡◌, Bool, true, false, ℕ, ◌<◌, ◌≤◌, List, [], ◌∷◌, length, not, refl, ap, sym, ◌∙◌, arith, Option, Some, None}
-use Rattle.std.specs.Prelude.{◌&&◌, filter, if◌then◌else◌, is_some}
-use Rattle.std.specs.Str.{bytes_eq}
-use Rattle.std.proofs.lemmas.List.{length-map}
-use Rattle.radio_tables.specs.Lists.{update_first}
+use Rattle.radio_parts_changes.proofs.Words.{◌&&◌, filter, if◌then◌else◌, is_some, bytes_eq, length-map, update_first, Settings, Listener, is_prepared, Listening, Move, carried, Sight, LiveArePrepared, StationState}
+use Rattle.radio_parts_changes.proofs.Words.{is_on_demand, heard_at, silence_at, silence_of, session_of, Session, option_or, still_prepared}
 use Rattle.radio_tables.proofs.KeyLaws.{by_name}
-use Rattle.radio_settings_values.specs.declared.settings.Settings.{Settings}
-use Rattle.radio_seats_rows.specs.declared.seat.Listener.{Listener}
-use Rattle.radio_seats_rows.specs.SeatTable.{is_prepared}
-use Rattle.radio_parts_table.specs.Listening.{Listening}
-use Rattle.radio_fallback.specs.declared.moves.Move.{Move}
-use Rattle.radio_fallback.specs.Carry.{carried}
-use Rattle.radio_fallback.specs.Walk.{Sight}
 use Rattle.radio_fallback.proofs.FaresLemmas.{numbers_kept}
-use Rattle.radio_parts_mount.specs.Prepared.{LiveArePrepared}
-use Rattle.radio_parts_station.specs.StationState.{StationState}
-use Rattle.radio_parts_station.specs.Waiting.{is_on_demand, heard_at, silence_at, silence_of}
 use Rattle.radio_parts_changes.specs.Prepared.{OnDemandArePrepared}
-use Rattle.radio_parts_mount.specs.Sessions.{session_of, Session}
-use Rattle.std.specs.Option.{option_or}
-use Rattle.radio_parts_mount.proofs.PreparedLemmas.{still_prepared}
 
 -- of as many listeners, or fewer
 pub fewer_seated : (settings : Settings) (now later : Listening) (seats : List Listener) → later ≡ record now { seats = seats }

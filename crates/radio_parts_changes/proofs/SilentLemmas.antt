@@ -1,18 +1,11 @@
 -- which sessions are silent: the first of them is live, and when it has ended the others are left
 use Rattle.std.proofs.Common.{◌≡◌, Bool, ℕ, ◌<◌, Option, Some, None, List, ◌∷◌, length, ap, sym, subst, ◌∙◌, arith}
-use Rattle.std.specs.Prelude.{find, fold, map}
+use Rattle.radio_parts_changes.proofs.Words.{find, fold, map, SourceSilent, Session, AreApart, is_silent, rising_apart, none_pass, others_left, StationState, finished_in, session_ended, session_silenced, silent_in}
+use Rattle.radio_parts_changes.proofs.Words.{World}
 use Rattle.std.specs.Cmp.Lexicographic.{slice_cmp}
 use Rattle.std.specs.List.Sorted.{IsStrictlySortedBy}
 use Rattle.std.specs.Ordering.{nat_cmp}
-use Rattle.radio_policy.specs.declared.rule.Rule.TheVariants.{SourceSilent}
 use Rattle.radio_tables.proofs.FindLaws.{passes_none}
-use Rattle.radio_parts_mount.specs.Sessions.{Session, AreApart}
-use Rattle.radio_parts_mount.specs.Timeouts.{is_silent}
-use Rattle.radio_parts_mount.proofs.SilentSessions.{rising_apart, none_pass, others_left}
-use Rattle.radio_parts_station.specs.StationState.{StationState}
-use Rattle.radio_parts_station.specs.StationChanges.{finished_in}
-use Rattle.radio_parts_changes.specs.Changes.{session_ended, session_silenced, silent_in}
-use Rattle.radio_parts_station.specs.World.{World}
 
 module _ (w : World) (session : Session) (apart : AreApart w.station.live) where
   abbrev silent : Session → Bool

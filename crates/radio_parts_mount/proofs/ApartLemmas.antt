@@ -1,16 +1,7 @@
 -- sessions of mounts of which no two are the same, before and after a change of the list
 use Rattle.std.proofs.Common.{◌≡◌, Bool, true, false, ℕ, Some, None, List, [], ◌∷◌, refl, ap, sym, subst, ◌∙◌}
-use Rattle.std.specs.Prelude.{find, filter, if◌then◌else◌}
-use Rattle.std.specs.Str.{bytes_eq}
-use Rattle.std.specs.declared.cmp.Ordering.{Ordering}
-use Rattle.std.specs.declared.cmp.Ordering.TheVariants.{Less, Equal, Greater}
-use Rattle.std.specs.Ordering.{match_ordering}
-use Rattle.std.proofs.lemmas.Slice.Eq.{bytes_eq-Decides}
-use Rattle.radio_tables.specs.Lists.{update_first, placed, Each}
-use Rattle.radio_tables.proofs.EachLaws.{Each_each, Each_kept, Each_updated, Each_placed}
-use Rattle.radio_tables.proofs.FindLaws.{find_here, find_later, found_has, passes_none}
-use Rattle.radio_tables.proofs.KeyLaws.{by_name}
-use Rattle.radio_parts_mount.specs.Sessions.{Session, is_of, session_of, by_mount, with_session, AreApart}
+use Rattle.radio_parts_mount.proofs.Words.{find, filter, if◌then◌else◌, bytes_eq, Ordering, Less, Equal, Greater, match_ordering, bytes_eq-Decides, update_first, placed, Each, Each_each, Each_kept, Each_updated}
+use Rattle.radio_parts_mount.proofs.Words.{Each_placed, find_here, find_later, found_has, passes_none, by_name, Session, is_of, session_of, by_mount, with_session, AreApart}
 
 pub bytes_apart : (a b : List ℕ) → bytes_eq a b ≡ false → bytes_eq b a ≡ false
 bytes_apart a b e = by_name b a (λ same. let there : bytes_eq a b ≡ true = (bytes_eq-Decides a b).1 (sym same) in cc) (λ apart. apart)

@@ -1,12 +1,6 @@
 -- listeners who are detached one after another
 use Rattle.std.proofs.Common.{◌≡◌, ◌⊎◌, inl, inr, ◌==◌, Bool, true, false, ℕ, List, [], ◌∷◌, refl, ap, sym, ◌∙◌, arith}
-use Rattle.std.proofs.lemmas.Bool.Decides.{nat_tests}
-use Rattle.std.specs.Prelude.{filter, not, if◌then◌else◌}
-use Rattle.radio_tables.specs.Lists.{Each}
-use Rattle.radio_tables.proofs.EachLaws.{Each_each, Each_kept}
-use Rattle.radio_attachments.specs.declared.attachment.Attachment.{Attachment}
-use Rattle.radio_attachments.specs.Rows.{is_attached}
-use Rattle.radio_parts_mount.specs.ByLists.{without_all}
+use Rattle.radio_parts_mount.proofs.Words.{nat_tests, filter, not, if◌then◌else◌, Each, Each_each, Each_kept, Attachment, is_attached, without_all}
 
 -- one of the rows has this number
 abbrev IsIn : ℕ → List Attachment → Type 0

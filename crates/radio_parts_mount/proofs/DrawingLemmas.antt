@@ -1,15 +1,7 @@
 -- what a draw changes among the attachments of a mount
 use Rattle.std.proofs.Common.{◌≡◌, ℕ, Option, Some, None, List, Result, Ok, Err, refl, ap, sym, subst, ◌∙◌}
-use Rattle.std.specs.Prelude.{find}
-use Rattle.std.specs.declared.alloc.AllocError.{AllocError}
-use Rattle.radio_tables.specs.Lists.{update_first}
-use Rattle.radio_tables.proofs.FindLaws.{changed_alike, unchanged}
-use Rattle.radio_attachments.specs.declared.attachment.Attachment.{Attachment}
-use Rattle.radio_attachments.specs.Rows.{is_attached, at_place, FoundIsVisited, IsVisitedIn}
-use Rattle.radio_parts_mount.specs.Sessions.{Session}
+use Rattle.radio_parts_mount.proofs.Words.{find, AllocError, update_first, changed_alike, unchanged, Attachment, is_attached, at_place, FoundIsVisited, IsVisitedIn, Session, Portion, IsDrawn, IsKept, heard_on}
 use Rattle.radio_parts_mount.proofs.PartLemmas.{none_changes}
-use Rattle.radio_parts_mount.specs.declared.drawing.Portion.{Portion}
-use Rattle.radio_parts_mount.specs.Steps.{IsDrawn, IsKept, heard_on}
 
 module _ {V : Type 0} (Visits : V → ℕ → Unit {0} → V → ℕ → Type 0) (draws draws' : V) (id : ℕ) (rows rows' : List Attachment) (answer : Option (Unit {0}))
     (visited : IsVisitedIn Visits id draws rows answer draws' rows') (session : Option Session) (room : ℕ) (before handed : Portion)

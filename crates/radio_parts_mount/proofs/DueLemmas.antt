@@ -1,17 +1,11 @@
 -- before it is due, nothing at a mount has had its time; and who is carried along, or loses its seat, is due no earlier
 use Rattle.std.proofs.Common.{◌≡◌, ℕ, ◌+◌, ◌*◌, ◌<◌, ◌≤◌, ◌==◌, Bool, true, false, Option, Some, None, List, [], ◌∷◌, min, refl, arith}
-use Rattle.std.specs.Prelude.{if◌then◌else◌, fold}
-use Rattle.std.specs.Option.{option_map_or}
-use Rattle.std.proofs.lemmas.Bool.Decides.{nat_tests}
-use Rattle.radio_policy.specs.declared.rule.Rule.{Rule}
+use Rattle.radio_parts_mount.proofs.Words.{if◌then◌else◌, fold, option_map_or, nat_tests, Rule, Each, advanced, moved, lost_by, loses, holds_of, lies_back, has_sat_out}
 use Rattle.radio_settings_values.specs.declared.settings.Settings.{Settings}
 use Rattle.radio_settings_values.specs.Options.{options_for}
-use Rattle.radio_tables.specs.Lists.{Each}
 use Rattle.radio_seats_rows.specs.declared.seat.Seating.{Seating}
 use Rattle.radio_seats_rows.specs.declared.seat.Seating.TheVariants.{Sits, Finished}
-use Rattle.radio_seats_rows.specs.Seats.{advanced, moved, lost_by, loses, holds_of}
 use Rattle.radio_parts_mount.specs.Due.{last_moment, due_at, listener_due, earliest}
-use Rattle.radio_parts_mount.specs.Timeouts.{lies_back, has_sat_out}
 
 not_back : (seconds moment ms : ℕ) (none : Bool) → (seconds == 0) ≡ none → ms < (if none then 0 else min (moment + 1000 * seconds) last_moment)
     → lies_back seconds moment ms ≡ false

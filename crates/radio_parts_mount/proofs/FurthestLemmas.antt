@@ -1,14 +1,8 @@
 -- how far streams go, after each change
 use Rattle.std.proofs.Common.{◌≡◌, Bool, true, false, ℕ, ◌≤◌, max, Option, Some, None, List, [], ◌∷◌, refl, ap, ◌∙◌, arith}
-use Rattle.std.specs.Prelude.{find, if◌then◌else◌, not}
+use Rattle.radio_parts_mount.proofs.Words.{find, if◌then◌else◌, not, update_first, Each, Each_each, Each_kept, Each_placed, Each_updated, find_here, find_later, find_same, found_has, longer_kept, kept_fed, Session}
+use Rattle.radio_parts_mount.proofs.Words.{GoNoFurther, is_of, session_of, by_mount, opened, with_session, with_title, titled, without_session, end_in, end_of}
 use Rattle.radio_values.specs.declared.field.Shown.{Shown}
-use Rattle.radio_tables.specs.Lists.{update_first, Each}
-use Rattle.radio_tables.proofs.EachLaws.{Each_each, Each_kept, Each_placed, Each_updated}
-use Rattle.radio_tables.proofs.FindLaws.{find_here, find_later, find_same, found_has}
-use Rattle.radio_parts_mount.specs.Kept.{longer_kept, kept_fed}
-use Rattle.radio_parts_mount.specs.Sessions.{Session, GoNoFurther, is_of, session_of, by_mount, opened, with_session, with_title, titled, without_session}
-use Rattle.radio_parts_mount.specs.StatePart.{end_in}
-use Rattle.radio_parts_mount.specs.Stream.{end_of}
 
 -- what holds of each element, and of what becomes of the one that is found, holds of each afterwards
 module _ {X : Type 0} (P : X → Type 0) (p : X → Bool) (f : X → X) where

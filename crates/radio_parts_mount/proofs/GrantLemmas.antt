@@ -1,16 +1,10 @@
 -- grants stand in a list that replays
 use Rattle.std.proofs.Common.{◌≡◌, ◌<◌, ◌+◌, ◌==◌, suc, zero, Bool, true, false, ℕ, Option, Some, None, List, [], ◌∷◌, ◌++◌, refl, ap, sym, subst, ◌∙◌, arith}
-use Rattle.std.proofs.lemmas.Bool.Decides.{nat_tests}
-use Rattle.std.specs.Prelude.{find, not, if◌then◌else◌, slice_get}
-use Rattle.std.specs.Option.{option_map}
+use Rattle.radio_parts_mount.proofs.Words.{nat_tests, find, not, if◌then◌else◌, slice_get, option_map, Rule, MountItem, Attach, Detach, Own, Titled, Grant, ByList, nothing, played, grant_of, granted, is_of_client}
+use Rattle.radio_parts_mount.proofs.Words.{without_grant, May, Replays}
 use Rattle.radio_events.specs.declared.entry.Entry.{Entry}
 use Rattle.radio_events.specs.Events.{client_in}
-use Rattle.radio_policy.specs.declared.rule.Rule.{Rule}
 use Rattle.radio_parts_mount.specs.declared.item.Attaching.{Attaching}
-use Rattle.radio_parts_mount.specs.declared.item.MountItem.{MountItem}
-use Rattle.radio_parts_mount.specs.declared.item.MountItem.TheVariants.{Attach, Detach, Own, Titled}
-use Rattle.radio_parts_mount.specs.declared.list.Grant.{Grant}
-use Rattle.radio_parts_mount.specs.ByLists.{ByList, nothing, played, grant_of, granted, is_of_client, without_grant, May, Replays}
 use Rattle.radio_parts_mount.specs.Grants.{HasGrant}
 
 -- the grant of one client, once another client's grant is gone, or one has come

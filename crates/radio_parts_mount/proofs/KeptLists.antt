@@ -1,17 +1,7 @@
 -- the sessions with what is kept of their streams, through each change of the sessions
 use Rattle.std.proofs.Common.{◌≡◌, Bool, true, false, ℕ, Option, Some, None, List, [], ◌∷◌, refl, ap, ◌∙◌}
-use Rattle.std.specs.Prelude.{filter, not, if◌then◌else◌}
-use Rattle.std.specs.declared.cmp.Ordering.{Ordering}
-use Rattle.std.specs.declared.cmp.Ordering.TheVariants.{Less, Equal, Greater}
-use Rattle.std.specs.Option.{option_map, option_map_or}
-use Rattle.std.specs.Ordering.{match_ordering}
-use Rattle.std.specs.Str.{bytes_eq}
-use Rattle.radio_tables.specs.Lists.{Each}
-use Rattle.radio_tables.proofs.FindLaws.{find_mapped, found_has}
-use Rattle.radio_parts_mount.specs.Kept.{kept_session, kept_live, longer_kept, kept_fed}
-use Rattle.radio_parts_mount.specs.Sessions.{Session, is_of, session_of, by_mount, with_session, longer, fed, with_title, titled, without_session, HasRisingStarts}
-use Rattle.radio_parts_mount.specs.Stream.{end_of}
-use Rattle.radio_parts_mount.specs.Timeouts.{is_silent}
+use Rattle.radio_parts_mount.proofs.Words.{filter, not, if◌then◌else◌, Ordering, Less, Equal, Greater, option_map, option_map_or, match_ordering, bytes_eq, Each, find_mapped, found_has, kept_session, kept_live}
+use Rattle.radio_parts_mount.proofs.Words.{longer_kept, kept_fed, Session, is_of, session_of, by_mount, with_session, longer, fed, with_title, titled, without_session, HasRisingStarts, end_of, is_silent}
 use Rattle.radio_parts_mount.proofs.KeptStreams.{kept_end, kept_more}
 
 module _ (limit : ℕ) where

@@ -1,14 +1,10 @@
 -- the streams that queues of blocks have
 use Rattle.std.proofs.Common.{◌≡◌, Bool, true, false, ℕ, ◌+◌, ◌-◌, ◌≤◌, List, [], ◌∷◌, ◌++◌, length, take, drop, replicate}
 use Rattle.std.proofs.Common.{refl, ap, sym, ◌∙◌, arith, length-append, append_assoc, append-nil}
-use Rattle.std.specs.Prelude.{find, nat_le, unwrap_or, if◌then◌else◌}
-use Rattle.std.specs.List.{concat}
-use Rattle.std.proofs.lemmas.List.{length-replicate}
+use Rattle.radio_parts_mount.proofs.Words.{find, nat_le, unwrap_or, if◌then◌else◌, concat, length-replicate, drop-append-add, drop-append_seam, first_start, shortest_starts, kept_from, forgotten, kept_stream, stream_of}
+use Rattle.radio_parts_mount.proofs.Words.{WholeStream, end_of, with_block, burst_start, data_at}
 use Rattle.std.proofs.lemmas.List.Folds.{concat-append}
-use Rattle.std.proofs.Math.Seq.{drop-append-add, drop-append_seam}
 use Rattle.radio_blocks.specs.Queue.{KeptTail, kept_end, kept_start, kept_data, shortest_tail, trimmed, with_pushed, starts_from}
-use Rattle.radio_parts_mount.specs.Kept.{first_start, shortest_starts, kept_from, forgotten, kept_stream, stream_of}
-use Rattle.radio_parts_mount.specs.Stream.{WholeStream, end_of, with_block, burst_start, data_at}
 
 pub stream_end : (tail : KeptTail) → end_of (stream_of tail) ≡ kept_end tail
 stream_end tail =

@@ -1,13 +1,8 @@
 -- what is kept of a stream, and of a stream that grows
 use Rattle.std.proofs.Common.{◌≡◌, Bool, true, false, ℕ, ◌+◌, ◌-◌, ◌≤◌, Some, List, [], ◌∷◌, ◌++◌, length, take, drop, replicate, refl, ap, sym, ◌∙◌}
 use Rattle.std.proofs.Common.{arith, length-append, append_assoc}
-use Rattle.std.specs.Prelude.{find, nat_le, unwrap_or, if◌then◌else◌}
-use Rattle.std.proofs.lemmas.Bool.{le-leb, leb-true}
-use Rattle.std.proofs.lemmas.List.{length-replicate, length-drop, drop-drop, drop-append-le}
-use Rattle.std.proofs.Math.Seq.{drop-append-add}
-use Rattle.radio_tables.specs.Lists.{Each}
-use Rattle.radio_parts_mount.specs.Kept.{first_start, shortest_starts, kept_from, forgotten, kept_stream}
-use Rattle.radio_parts_mount.specs.Stream.{AreRising, WholeStream, end_of, with_block, burst_start, data_at}
+use Rattle.radio_parts_mount.proofs.Words.{find, nat_le, unwrap_or, if◌then◌else◌, le-leb, leb-true, length-replicate, length-drop, drop-drop, drop-append-le, drop-append-add, Each, first_start, shortest_starts}
+use Rattle.radio_parts_mount.proofs.Words.{kept_from, forgotten, kept_stream, AreRising, WholeStream, end_of, with_block, burst_start, data_at}
 use Rattle.radio_parts_mount.proofs.RisingLemmas.{rising_more}
 
 -- the first start of more blocks

@@ -18,3 +18,4 @@ pub mod GrantLemmas
 pub mod ListLemmas
 pub mod OwnSteps
 pub mod Threads
+mod Words

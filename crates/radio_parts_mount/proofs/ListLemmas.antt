@@ -1,15 +1,8 @@
 -- a list with one item more
 use Rattle.std.proofs.Common.{◌≡◌, ◌==◌, ℕ, Bool, true, false, Option, Some, None, List, [], ◌∷◌, ◌++◌, refl, ap, sym, subst, ◌∙◌, suc, ◌+◌, length, arith}
-use Rattle.std.proofs.lemmas.Bool.Decides.{nat_tests}
-use Rattle.std.specs.Prelude.{filter, not, if◌then◌else◌}
-use Rattle.radio_attachments.specs.declared.attachment.Attachment.{Attachment}
-use Rattle.radio_attachments.specs.Rows.{is_attached}
-use Rattle.radio_parts_mount.specs.Sessions.{Session}
-use Rattle.radio_parts_mount.specs.declared.item.MountItem.{MountItem}
-use Rattle.radio_parts_mount.specs.declared.list.Grant.{Grant}
+use Rattle.radio_parts_mount.proofs.Words.{nat_tests, filter, not, if◌then◌else◌, Attachment, is_attached, Session, MountItem, Grant, PartList, ByList, by_list, nothing, played, played_all, attached_without}
+use Rattle.radio_parts_mount.proofs.Words.{session_without, May, Replays, IsList, IsListIf, IsListOf}
 use Rattle.radio_parts_mount.specs.declared.list.KeptItems.{KeptItems}
-use Rattle.radio_parts_mount.specs.declared.list.PartList.{PartList}
-use Rattle.radio_parts_mount.specs.ByLists.{ByList, by_list, nothing, played, played_all, attached_without, session_without, May, Replays, IsList, IsListIf, IsListOf}
 
 module _ (queue : ℕ) (mount : List ℕ) (item : MountItem) where
   gives_more : (s : ByList) (items : List MountItem) → played_all queue mount s (items ++ item ∷ []) ≡ played queue mount (played_all queue mount s items) item

@@ -1,15 +1,8 @@
 -- lists of numbers that rise, and the numbers of a list's elements
 use Rattle.std.proofs.Common.{◌≡◌, Bool, true, false, ℕ, ◌+◌, ◌<◌, ◌==◌, ◌||◌, not, Some, None, is_some, List, [], ◌∷◌, length, refl, ap, sym, subst}
 use Rattle.std.proofs.Common.{◌∙◌, arith}
-use Rattle.std.specs.Prelude.{find, filter, map, if◌then◌else◌}
-use Rattle.std.specs.List.{list_any}
-use Rattle.std.specs.Ordering.{nat_cmp, match_ordering}
-use Rattle.std.specs.declared.cmp.Ordering.{Ordering}
-use Rattle.std.specs.declared.cmp.Ordering.TheVariants.{Less, Equal, Greater}
-use Rattle.std.proofs.lemmas.Bool.Decides.{nat_tests}
-use Rattle.radio_tables.specs.Lists.{update_first, placed, Each}
-use Rattle.radio_tables.proofs.EachLaws.{Each_each, Each_kept, Each_placed, Each_mapped}
-use Rattle.radio_tables.proofs.FindLaws.{passes_none}
+use Rattle.radio_parts_mount.proofs.Words.{find, filter, map, if◌then◌else◌, list_any, nat_cmp, match_ordering, Ordering, Less, Equal, Greater, nat_tests, update_first, placed, Each, Each_each, Each_kept, Each_placed}
+use Rattle.radio_parts_mount.proofs.Words.{Each_mapped, passes_none}
 
 abbrev pub IsRising : List ℕ → Type 0
 IsRising [] = Unit {0}

@@ -1,16 +1,7 @@
 -- listeners stay in the order of their numbers
 use Rattle.std.proofs.Common.{◌≡◌, Bool, ℕ, ◌<◌, List, [], ◌∷◌, refl, sym, subst, arith}
-use Rattle.std.specs.Prelude.{map}
-use Rattle.std.specs.List.{AllByRecursion}
-use Rattle.std.specs.List.Sorted.{IsStrictlySortedBy}
-use Rattle.std.specs.Ordering.{nat_cmp}
-use Rattle.std.specs.declared.cmp.Ordering.TheVariants.{Less}
-use Rattle.std.proofs.lemmas.Bool.Decides.{nat_tests}
-use Rattle.radio_policy.specs.declared.rule.Rule.{Rule}
-use Rattle.radio_tables.specs.Lists.{Each}
-use Rattle.radio_seats_rows.specs.declared.seat.Listener.{Listener}
-use Rattle.radio_seats_rows.specs.declared.seat.Seat.{Seat}
-use Rattle.radio_seats_rows.specs.Seats.{is_listener, seated, advanced, finished_if, loses, with_seat, with_place, with_end, with_ended, without_listener, AreByNumber}
+use Rattle.radio_parts_mount.proofs.Words.{map, AllByRecursion, IsStrictlySortedBy, nat_cmp, Less, nat_tests, Rule, Each, Listener, Seat, is_listener, seated, advanced, finished_if, loses, with_seat, with_place}
+use Rattle.radio_parts_mount.proofs.Words.{with_end, with_ended, without_listener, AreByNumber}
 use Rattle.radio_parts_mount.proofs.NumberLists.{IsRising, placed_rising, kept_rising, numbers_updated, numbers_mapped, numbers_placed, numbers_without}
 
 abbrev number : Listener → ℕ

@@ -1,23 +1,12 @@
 -- an own step of a part, as its list has it: whoever lagged out before is not looked at
 use Rattle.std.proofs.Common.{◌≡◌, Bool, true, false, ℕ, Option, Some, None, List, refl, ap, sym, subst, ◌∙◌}
-use Rattle.std.specs.Prelude.{find, if◌then◌else◌}
-use Rattle.std.specs.Option.{option_map, option_map_or}
-use Rattle.radio_attachments.specs.declared.attachment.Attachment.{Attachment}
-use Rattle.radio_attachments.specs.Rows.{is_attached}
-use Rattle.radio_events.specs.declared.event.Event.{Event}
+use Rattle.radio_parts_mount.proofs.Words.{find, if◌then◌else◌, option_map, option_map_or, Attachment, is_attached, Event, end_in, Session, with_title, after_own, part_of, IsList, heard_on, is_fed_by, is_spent_with}
+use Rattle.radio_parts_mount.proofs.Words.{part_after, part_answers, part_fed, part_heard, part_lagged, portion_at, Portion, PartList, MountPart, Elsewhere, Replied}
 use Rattle.radio_events.specs.declared.event.Event.TheVariants.{Arrive, Source, Push, SourceEnd, Title, Listen, Draw, Command, Leave, RelayUp, RelayDown, Clock}
 use Rattle.radio_parts_mount.proofs.PartLemmas.{none_changes}
-use Rattle.radio_parts_mount.specs.StatePart.{end_in}
-use Rattle.radio_parts_mount.specs.Sessions.{Session, with_title}
 use Rattle.radio_events.specs.declared.reply.Reply.{Reply}
 use Rattle.radio_events.specs.declared.reply.Reply.TheVariants.{Drawn}
-use Rattle.radio_parts_mount.specs.ByLists.{after_own, part_of, IsList}
 use Rattle.radio_parts_mount.specs.Parts.{with_session_changed}
-use Rattle.radio_parts_mount.specs.Steps.{heard_on, is_fed_by, is_spent_with, part_after, part_answers, part_fed, part_heard, part_lagged, portion_at}
-use Rattle.radio_parts_mount.specs.declared.drawing.Portion.{Portion}
-use Rattle.radio_parts_mount.specs.declared.list.PartList.{PartList}
-use Rattle.radio_parts_mount.specs.declared.part.MountPart.{MountPart}
-use Rattle.radio_parts_mount.specs.declared.step.PartAnswer.TheVariants.{Elsewhere, Replied}
 
 -- the parts have one session, and the same attachments
 abbrev Alike : MountPart → MountPart → Type 0

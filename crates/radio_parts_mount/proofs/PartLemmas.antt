@@ -1,12 +1,6 @@
 -- what becomes of a mount's session by itself is what becomes of it among all sessions
 use Rattle.std.proofs.Common.{◌≡◌, Bool, true, false, ℕ, Option, Some, None, List, [], ◌∷◌, refl, ap, sym, ◌∙◌}
-use Rattle.std.specs.Prelude.{find, if◌then◌else◌}
-use Rattle.std.specs.Option.{option_map}
-use Rattle.radio_tables.specs.Lists.{update_first}
-use Rattle.radio_tables.proofs.FindLaws.{find_here, find_later, find_same, changed_alike}
-use Rattle.radio_seats_rows.specs.declared.seat.Listener.{Listener}
-use Rattle.radio_parts_mount.specs.Sessions.{Session, is_of, session_of, longer, fed}
-use Rattle.radio_parts_mount.specs.StatePart.{end_in, with_its_session}
+use Rattle.radio_parts_mount.proofs.Words.{find, if◌then◌else◌, option_map, update_first, find_here, find_later, find_same, changed_alike, Listener, Session, is_of, session_of, longer, fed, end_in, with_its_session}
 
 -- where no element is found, none changes
 module _ {X : Type 0} (p : X → Bool) (f : X → X) where

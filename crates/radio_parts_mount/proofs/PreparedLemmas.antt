@@ -1,13 +1,8 @@
 -- live mounts are prepared, after each change of the sessions and of the table
 use Rattle.std.proofs.Common.{◌≡◌, Bool, true, false, ℕ, ◌||◌, Some, None, List, [], ◌∷◌, not, refl, ap, sym, ◌∙◌}
-use Rattle.std.specs.Prelude.{◌&&◌, find, is_some, if◌then◌else◌}
-use Rattle.std.specs.Str.{bytes_eq}
-use Rattle.std.proofs.lemmas.Slice.Eq.{bytes_eq-Decides}
-use Rattle.radio_tables.specs.Lists.{update_first}
-use Rattle.radio_tables.proofs.KeyLaws.{by_name}
+use Rattle.radio_parts_mount.proofs.Words.{◌&&◌, find, is_some, if◌then◌else◌, bytes_eq, bytes_eq-Decides, update_first, by_name, Session, is_of, session_of, with_session, without_session}
 use Rattle.radio_seats_rows.specs.SeatTable.{is_prepared}
 use Rattle.radio_parts_mount.specs.Prepared.{LiveArePrepared}
-use Rattle.radio_parts_mount.specs.Sessions.{Session, is_of, session_of, with_session, without_session}
 use Rattle.radio_parts_mount.proofs.SessionLookups.{is_over, beside_ended, beside_begun}
 
 -- no mount is live that was not, and no other is prepared

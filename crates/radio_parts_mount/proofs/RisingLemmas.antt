@@ -1,9 +1,6 @@
 -- the places where a stream's blocks start: they rise still with one more, and none is past the end
 use Rattle.std.proofs.Common.{◌≡◌, Bool, ℕ, ◌-◌, ◌≤◌, Option, Some, None, List, [], ◌∷◌, ◌++◌, refl, arith}
-use Rattle.std.specs.Prelude.{find, nat_le, unwrap_or}
-use Rattle.radio_tables.specs.Lists.{Each}
-use Rattle.radio_tables.proofs.FindLaws.{found_has}
-use Rattle.radio_parts_mount.specs.Stream.{WholeStream, AreRising, end_of, burst_start}
+use Rattle.radio_parts_mount.proofs.Words.{find, nat_le, unwrap_or, Each, found_has, WholeStream, AreRising, end_of, burst_start}
 
 each_below : (starts : List ℕ) (place last : ℕ) → place ≤ last → Each (λ next. place ≤ next) starts → Each (λ next. place ≤ next) (starts ++ last ∷ [])
 each_below [] place last h all = (h, tt)

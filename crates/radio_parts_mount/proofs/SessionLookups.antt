@@ -1,14 +1,8 @@
 -- what is found among sessions after each change
 use Rattle.std.proofs.Common.{◌≡◌, Bool, true, false, ℕ, Some, None, List, refl, ap, ◌∙◌}
-use Rattle.std.specs.Prelude.{if◌then◌else◌}
-use Rattle.std.specs.Ordering.{nat_cmp}
-use Rattle.std.specs.Cmp.Lexicographic.{slice_cmp}
-use Rattle.std.specs.Str.{bytes_eq}
+use Rattle.radio_parts_mount.proofs.Words.{if◌then◌else◌, nat_cmp, slice_cmp, bytes_eq, bytes_eq-Decides, find_same, find_apart, find_removed, find_others, found_passes, name_is, find_placed, Session, is_of, session_of}
+use Rattle.radio_parts_mount.proofs.Words.{with_session, longer, fed, with_title, titled, without_session}
 use Rattle.std.proofs.lemmas.Cmp.{nat_list_cmp_total}
-use Rattle.std.proofs.lemmas.Slice.Eq.{bytes_eq-Decides}
-use Rattle.radio_tables.proofs.FindLaws.{find_same, find_apart, find_removed, find_others, found_passes}
-use Rattle.radio_tables.proofs.KeyLaws.{name_is, find_placed}
-use Rattle.radio_parts_mount.specs.Sessions.{Session, is_of, session_of, with_session, longer, fed, with_title, titled, without_session}
 
 -- a choice whose test is known
 pub chosen : {X : Type 0} {b : Bool} (x y : X) → b ≡ true → (if b then x else y) ≡ x

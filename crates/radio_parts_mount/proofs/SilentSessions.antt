@@ -1,16 +1,7 @@
 -- the first of the sessions that pass a test is found, and when it has ended the others are left
 use Rattle.std.proofs.Common.{◌≡◌, Bool, true, false, ℕ, Some, List, [], ◌∷◌, not, refl, ap, sym, ◌∙◌}
-use Rattle.std.specs.Prelude.{find, filter, map, if◌then◌else◌}
-use Rattle.std.specs.Cmp.Lexicographic.{slice_cmp}
-use Rattle.std.specs.List.{AllByRecursion}
-use Rattle.std.specs.List.Sorted.{IsStrictlySortedBy}
-use Rattle.std.specs.Ordering.{is_eq, nat_cmp}
-use Rattle.std.specs.declared.cmp.Ordering.TheVariants.{Less}
-use Rattle.std.specs.Str.{bytes_eq}
-use Rattle.radio_tables.specs.Lists.{Each}
-use Rattle.radio_tables.proofs.FindLaws.{find_here, find_later}
-use Rattle.radio_tables.proofs.KeyLaws.{name_is}
-use Rattle.radio_parts_mount.specs.Sessions.{Session, AreApart, is_of, without_session}
+use Rattle.radio_parts_mount.proofs.Words.{find, filter, map, if◌then◌else◌, slice_cmp, AllByRecursion, IsStrictlySortedBy, is_eq, nat_cmp, Less, bytes_eq, Each, find_here, find_later, name_is, Session, AreApart, is_of}
+use Rattle.radio_parts_mount.proofs.Words.{without_session}
 use Rattle.radio_parts_mount.proofs.ApartLemmas.{bytes_apart, own_mount}
 
 -- sessions in the order of their mounts are of different ones

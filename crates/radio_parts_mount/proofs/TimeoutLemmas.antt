@@ -1,12 +1,6 @@
 -- What has had its time at a mount, in numbers.
 use Rattle.std.proofs.Common.{◌≡◌, ℕ, ◌*◌, ◌-◌, ◌<◌, ◌≤◌, true, false, List, Option, Some, None, ltb, refl, sym, subst}
-use Rattle.std.specs.Prelude.{◌↔◌}
-use Rattle.std.specs.Str.{bytes_eq}
-use Rattle.std.specs.Option.{option_map_or}
-use Rattle.std.proofs.lemmas.Slice.Eq.{bytes_eq-Decides}
-use Rattle.std.proofs.lemmas.Bool.{ltb-true, lt-ltb, leb-true, le-leb, and_parts, and_from}
-use Rattle.radio_seats_rows.specs.declared.seat.Seat.{Seat}
-use Rattle.radio_parts_mount.specs.Timeouts.{lies_back, lags_behind}
+use Rattle.radio_parts_mount.proofs.Words.{◌↔◌, bytes_eq, option_map_or, bytes_eq-Decides, ltb-true, lt-ltb, leb-true, le-leb, and_parts, and_from, Seat, lies_back, lags_behind}
 
 -- so many seconds or more, in milliseconds
 pub lies_back_when : (seconds moment now : ℕ) → (lies_back seconds moment now ≡ true) ↔ (1000 * seconds ≤ now - moment)

@@ -3,3 +3,4 @@ pub mod Lookups
 mod RelayRows
 pub mod TimeoutLemmas
 pub mod WaitingLemmas
+mod Words

@@ -1,22 +1,11 @@
 -- what the registry notes of the live mounts says of their sessions
 use Rattle.std.proofs.Common.{◌≡◌, Bool, true, false, ℕ, Option, Some, None, List, [], ◌∷◌, refl, ap, sym, ◌∙◌}
-use Rattle.std.specs.Prelude.{◌||◌, find, filter, map, not, is_some, if◌then◌else◌}
-use Rattle.std.specs.Option.{option_map, option_map_or, option_or}
-use Rattle.std.specs.Str.{bytes_eq}
+use Rattle.radio_parts_station.proofs.Words.{◌||◌, find, map, not, is_some, if◌then◌else◌, option_map, option_map_or, option_or, update_first, options_for, Sight, with_ends, ends_in, Session, by_mount, is_of, session_of}
+use Rattle.radio_parts_station.proofs.Words.{with_session, without_session, LiveMount, Registry, station_state, fallback_of, live_number, sight_of, AreLive, bare_station, bare_session, is_live_mount, live_by_name}
+use Rattle.radio_parts_station.proofs.Words.{live_mount, sight_in, with_live_mount, without_live, heard_at, is_on_demand, silence_at, silence_of}
 use Rattle.std.proofs.Math.Path.{fun_ext}
-use Rattle.radio_tables.specs.Lists.{update_first}
 use Rattle.radio_access.specs.Lists.{lets_in}
-use Rattle.radio_settings_values.specs.Options.{options_for}
-use Rattle.radio_fallback.specs.Walk.{Sight, with_ends}
-use Rattle.radio_parts_mount.specs.StatePart.{ends_in}
-use Rattle.radio_parts_mount.specs.Sessions.{Session, by_mount, is_of, session_of, with_session, without_session}
 use Rattle.radio_seats_rows.proofs.Lists.{map_filtered, map_found, map_placed}
-use Rattle.radio_parts_station.specs.declared.live.LiveMount.{LiveMount}
-use Rattle.radio_parts_station.specs.Registry.{Registry, station_state}
-use Rattle.radio_parts_station.specs.Facts.{fallback_of, live_end, live_number, sight_of}
-use Rattle.radio_parts_station.specs.StationState.{StationState}
-use Rattle.radio_parts_station.specs.Live.{AreLive, bare_station, bare_session, is_live_mount, live_by_name, live_mount, sight_in, with_live_mount, without_live}
-use Rattle.radio_parts_station.specs.Waiting.{heard_at, is_on_demand, silence_at, silence_of}
 
 -- what the registry knows of a mount
 module _ (registry : Registry) (mount : List ℕ) where

@@ -1,18 +1,13 @@
 -- what is found among clients, relays and fallbacks after each change
 use Rattle.std.proofs.Common.{◌≡◌, true, false, ℕ, ◌==◌, Option, Bool, Some, None, List, [], ◌∷◌, refl, ap, sym, ◌∙◌}
-use Rattle.std.specs.Prelude.{if◌then◌else◌}
-use Rattle.std.specs.Ordering.{nat_cmp}
+use Rattle.radio_parts_station.proofs.Words.{if◌then◌else◌, nat_cmp, bytes_eq, find_here, find_later, find_same, find_apart, find_removed, find_others, chosen, passed, ClientState, Relay, is_relay, relay_of, with_relay}
+use Rattle.radio_parts_station.proofs.Words.{relay_ended, with_relay_ended, without_relay}
 use Rattle.std.specs.Cmp.Lexicographic.{slice_cmp}
-use Rattle.std.specs.Str.{bytes_eq}
 use Rattle.std.proofs.lemmas.Bool.{eqb-true}
 use Rattle.std.proofs.lemmas.Cmp.{nat_cmp_total, nat_list_cmp_total}
-use Rattle.radio_tables.proofs.FindLaws.{find_here, find_later, find_same, find_apart, find_removed, find_others}
 use Rattle.radio_tables.proofs.KeyLaws.{number_is, name_is, find_placed}
-use Rattle.radio_parts_mount.proofs.SessionLookups.{chosen, passed}
-use Rattle.radio_parts_station.specs.declared.clients.ClientState.{ClientState}
 use Rattle.radio_parts_station.specs.Clients.{Client, is_client, client_of, with_client, with_client_state, in_state, without_client}
 use Rattle.radio_policy.specs.declared.rule.Rule.{Rule}
-use Rattle.radio_parts_station.specs.Relays.{Relay, is_relay, relay_of, with_relay, relay_ended, with_relay_ended, without_relay}
 use Rattle.radio_parts_station.specs.Fallbacks.{Fallback, is_set_for, set_for, with_fallback}
 
 -- clients

@@ -1,16 +1,11 @@
 -- a relay's row that was put into its place and is put back
 use Rattle.std.proofs.Common.{◌≡◌, Bool, true, false, ℕ, Option, Some, None, List, [], ◌∷◌, refl, ap, sym, ◌∙◌, arith}
-use Rattle.std.specs.Prelude.{map}
-use Rattle.std.specs.Option.{option_map}
+use Rattle.radio_parts_station.proofs.Words.{map, option_map, nat_cmp, match_ordering, update_first, find_here, find_later, Relay, is_relay, relay_of, doing, with_relay, without_relay, put_back}
 use Rattle.std.specs.List.{AllByRecursion}
 use Rattle.std.specs.List.Sorted.{IsStrictlySortedBy}
-use Rattle.std.specs.Ordering.{nat_cmp, match_ordering}
 use Rattle.std.specs.declared.cmp.Ordering.{Ordering}
 use Rattle.std.specs.declared.cmp.Ordering.TheVariants.{Less, Equal, Greater}
 use Rattle.std.proofs.lemmas.Bool.Decides.{nat_tests}
-use Rattle.radio_tables.specs.Lists.{update_first}
-use Rattle.radio_tables.proofs.FindLaws.{find_here, find_later}
-use Rattle.radio_parts_station.specs.Relays.{Relay, is_relay, relay_of, doing, with_relay, without_relay, put_back}
 
 abbrev number_of : Relay → ℕ
 number_of relay = relay.id

@@ -1,9 +1,7 @@
 -- What has had its time, in numbers.
 use Rattle.std.proofs.Common.{◌≡◌, ℕ, ◌*◌, ◌-◌, ◌≤◌, true, refl}
-use Rattle.std.specs.Prelude.{◌↔◌}
-use Rattle.radio_settings_values.specs.Options.{options_for}
+use Rattle.radio_parts_station.proofs.Words.{◌↔◌, options_for, ClientState}
 use Rattle.radio_parts_mount.proofs.TimeoutLemmas.{lies_back_when, lags_when, sat_out_when}
-use Rattle.radio_parts_station.specs.declared.clients.ClientState.{ClientState}
 use Rattle.radio_parts_station.specs.declared.clients.ClientState.TheVariants.{Undecided, Feeds, Listens, Answered, Ended}
 use Rattle.radio_parts_station.specs.Timeouts.{asks_nothing, TestsAreInNumbers}
 

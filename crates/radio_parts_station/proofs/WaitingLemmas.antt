@@ -1,11 +1,7 @@
 -- mounts that relays feed on demand
 use Rattle.std.proofs.Common.{◌≡◌, ◌⊎◌, inl, inr, Bool, true, false, ℕ, Some, List, ◌∷◌, refl}
-use Rattle.std.specs.Prelude.{find, if◌then◌else◌}
-use Rattle.std.specs.Option.{option_map_or}
-use Rattle.std.specs.Str.{bytes_eq}
+use Rattle.radio_parts_station.proofs.Words.{find, if◌then◌else◌, option_map_or, bytes_eq, RelaySetting, feeds_on_demand}
 use Rattle.std.proofs.lemmas.Slice.Eq.{bytes_eq-Decides}
-use Rattle.radio_settings_values.specs.declared.settings.RelaySetting.{RelaySetting}
-use Rattle.radio_parts_station.specs.Waiting.{feeds_on_demand}
 
 -- the first relay feeds the mount on demand, or another does
 pub first_or_other : (relay : RelaySetting) (relays : List RelaySetting) (mount : List ℕ) → feeds_on_demand (relay ∷ relays) mount ≡ true

@@ -1,11 +1,6 @@
 -- what the parts' sessions are asked, told of the sessions of the live mounts
 use Rattle.std.proofs.Common.{◌≡◌, Bool, true, false, ℕ, Option, Some, None, List, [], ◌∷◌, refl, ap, sym, ◌∙◌}
-use Rattle.std.specs.Prelude.{find, fold, min, if◌then◌else◌}
-use Rattle.std.specs.Option.{option_map_or}
-use Rattle.radio_parts_mount.specs.Due.{session_due}
-use Rattle.radio_parts_mount.specs.Sessions.{Session}
-use Rattle.radio_parts_mount.specs.declared.part.MountPart.{MountPart}
-use Rattle.radio_parts_table.specs.Parts.{earlier_due, has_session, live_in}
+use Rattle.radio_parts_table.proofs.Words.{find, fold, min, if◌then◌else◌, option_map_or, session_due, Session, MountPart, earlier_due, has_session, live_in}
 use Rattle.radio_parts_table.proofs.LiveLemmas.{live_none, live_some}
 
 -- the session of the part that is found

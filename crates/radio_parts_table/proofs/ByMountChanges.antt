@@ -1,25 +1,8 @@
 -- who is attached where, after a mount has come or gone, a listener was attached, or others were detached
 use Rattle.std.proofs.Common.{◌≡◌, Bool, true, false, ℕ, ◌==◌, Option, Some, None, List, [], ◌∷◌, length, not, inl, inr, refl, ap, sym, subst, ◌∙◌}
-use Rattle.std.specs.Prelude.{find, filter, is_some, ◌||◌, if◌then◌else◌}
-use Rattle.std.specs.Cmp.Lexicographic.{slice_cmp}
-use Rattle.std.specs.Option.{option_map}
-use Rattle.std.specs.Ordering.{nat_cmp}
-use Rattle.std.specs.Str.{bytes_eq}
-use Rattle.std.proofs.lemmas.Bool.{eqb-true}
-use Rattle.std.proofs.lemmas.Cmp.{nat_list_cmp_total}
-use Rattle.std.proofs.lemmas.Slice.Eq.{bytes_eq-Decides}
-use Rattle.radio_tables.specs.Lists.{update_first, placed}
-use Rattle.radio_tables.proofs.FindLaws.{find_apart, find_here, find_later, find_others, find_removed}
-use Rattle.radio_tables.proofs.KeyLaws.{find_placed, name_is}
-use Rattle.radio_attachments.specs.declared.attachment.Attachment.{Attachment}
-use Rattle.radio_attachments.specs.Rows.{is_attached, at_place}
-use Rattle.radio_seats_rows.specs.declared.seat.Listener.{Listener}
-use Rattle.radio_seats_rows.specs.Seats.{sits_at}
-use Rattle.radio_fallback.specs.Heard.{OthersStay, IsAt, GoesOver}
-use Rattle.radio_parts_table.specs.Parts.{has_part}
-use Rattle.radio_parts_mount.specs.Parts.{MountAttachments}
-use Rattle.radio_parts_table.specs.Attached.{is_of_mount, found_in, places_in}
-use Rattle.radio_parts_mount.specs.Attached.{with_boxed, advanced_there, with_sitters}
+use Rattle.radio_parts_table.proofs.Words.{find, filter, is_some, ◌||◌, if◌then◌else◌, slice_cmp, option_map, nat_cmp, bytes_eq, eqb-true, nat_list_cmp_total, bytes_eq-Decides, update_first, placed, find_apart}
+use Rattle.radio_parts_table.proofs.Words.{find_here, find_later, find_others, find_removed, find_placed, name_is, Attachment, is_attached, at_place, Listener, sits_at, OthersStay, IsAt, GoesOver, has_part}
+use Rattle.radio_parts_table.proofs.Words.{MountAttachments, is_of_mount, found_in, places_in, with_boxed, advanced_there, with_sitters}
 use Rattle.radio_parts_table.proofs.ByMountLemmas.{changed_here, changed_there, stays_so, put_there, with_alike, not_his}
 
 abbrev place_in : Option Attachment → Option ℕ

@@ -1,20 +1,8 @@
 -- who is attached where, after an attachment has moved
 use Rattle.std.proofs.Common.{◌≡◌, Bool, true, false, ℕ, ◌==◌, inl, inr, Option, Some, None, List, [], ◌∷◌, not, refl, ap, sym, subst, ◌∙◌, arith}
-use Rattle.std.specs.Prelude.{find, filter, is_some, if◌then◌else◌}
-use Rattle.std.specs.Option.{option_map}
-use Rattle.std.specs.Str.{bytes_eq}
-use Rattle.std.proofs.lemmas.Bool.{eqb-true}
-use Rattle.std.proofs.lemmas.Bool.Decides.{nat_tests}
-use Rattle.std.proofs.lemmas.Slice.Eq.{bytes_eq-Decides}
-use Rattle.radio_tables.specs.Lists.{update_first}
-use Rattle.radio_tables.proofs.FindLaws.{find_here, find_later, find_apart, find_others, find_removed, found_passes}
-use Rattle.radio_attachments.specs.declared.attachment.Attachment.{Attachment}
-use Rattle.radio_attachments.specs.Rows.{is_attached, at_place, comes_before, put_in}
-use Rattle.radio_fallback.specs.Heard.{OthersStay, IsAt, GoesOver, GoesOff}
-use Rattle.radio_parts_table.specs.Parts.{has_part}
-use Rattle.radio_parts_mount.specs.Parts.{MountAttachments}
-use Rattle.radio_parts_table.specs.Attached.{is_of_mount, found_in, places_in}
-use Rattle.radio_parts_mount.specs.Attached.{without_id, with_boxed}
+use Rattle.radio_parts_table.proofs.Words.{find, filter, is_some, if◌then◌else◌, option_map, bytes_eq, eqb-true, nat_tests, bytes_eq-Decides, update_first, find_here, find_later, find_apart, find_others, find_removed}
+use Rattle.radio_parts_table.proofs.Words.{found_passes, Attachment, is_attached, at_place, comes_before, put_in, OthersStay, IsAt, GoesOver, GoesOff, has_part, MountAttachments, is_of_mount, found_in, places_in}
+use Rattle.radio_parts_table.proofs.Words.{without_id, with_boxed}
 
 -- a mount's row that has changed
 module _ (mount : List ℕ) (f : MountAttachments → MountAttachments) (same : (x : MountAttachments) → (f x).mount ≡ x.mount) where

@@ -1,20 +1,10 @@
 -- what a block that is brought to a mount changes, and what is answered
 use Rattle.std.proofs.Common.{◌≡◌, ℕ, Option, Some, None, List, Result, Ok, Err, refl, ap, sym, subst, ◌∙◌}
-use Rattle.std.specs.Prelude.{find, IfOk, OnOk, OnErr}
+use Rattle.radio_parts_table.proofs.Words.{find, IfOk, OnOk, OnErr, option_map, update_first, find_same, changed_alike, unchanged, longer_kept, kept_fed, end_in, Session, is_of, session_of, none_changes, Delivers}
+use Rattle.radio_parts_table.proofs.Words.{MountPart, IsDelivered, AreNamed, live_in, is_part_of, with_session_changed}
 use Rattle.std.specs.declared.alloc.AllocError.{AllocError}
-use Rattle.std.specs.Option.{option_map}
-use Rattle.radio_tables.specs.Lists.{update_first}
 use Rattle.radio_tables.specs.Visits.{IsVisited}
-use Rattle.radio_tables.proofs.FindLaws.{find_same, changed_alike, unchanged}
 use Rattle.radio_tables.proofs.VisitLaws.{not_visited, was_visited}
-use Rattle.radio_parts_mount.specs.Kept.{longer_kept, kept_fed}
-use Rattle.radio_parts_mount.specs.StatePart.{end_in}
-use Rattle.radio_parts_mount.specs.Sessions.{Session, is_of, session_of}
-use Rattle.radio_parts_mount.proofs.PartLemmas.{none_changes}
-use Rattle.radio_parts_table.specs.declared.changes.Delivers.{Delivers}
-use Rattle.radio_parts_mount.specs.declared.part.MountPart.{MountPart}
-use Rattle.radio_parts_table.specs.Parts.{IsDelivered, AreNamed, live_in}
-use Rattle.radio_parts_mount.specs.Parts.{is_part_of, with_session_changed}
 use Rattle.radio_parts_table.proofs.LiveLemmas.{AreRising, its, session_found}
 
 abbrev pub Visits : Delivers → List ℕ → MountPart → Result ℕ AllocError → Delivers → MountPart → Type 0

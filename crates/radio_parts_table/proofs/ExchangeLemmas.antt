@@ -1,25 +1,9 @@
 -- the parts, after one has taken the place of another
-use Rattle.std.proofs.Common.{◌≡◌, ◌⊎◌, inl, inr, Bool, true, false, ℕ, ◌≤◌, max, Option, Some, None, List, [], ◌∷◌, refl, ap, sym, subst, ◌∙◌, arith}
-use Rattle.std.specs.Prelude.{find, map, ◌==◌, ◌&&◌, if◌then◌else◌}
-use Rattle.std.specs.Option.{option_map, option_map_or}
-use Rattle.std.specs.Cmp.Lexicographic.{slice_cmp}
-use Rattle.std.specs.List.Sorted.{IsStrictlySortedBy}
-use Rattle.std.specs.Ordering.{nat_cmp}
-use Rattle.std.specs.Str.{bytes_eq}
-use Rattle.std.proofs.lemmas.Slice.Eq.{bytes_eq-Decides}
-use Rattle.radio_tables.specs.Lists.{update_first}
-use Rattle.radio_tables.proofs.EachLaws.{Each_each}
-use Rattle.radio_tables.proofs.FindLaws.{find_apart, find_here, find_later, found_passes, unchanged}
-use Rattle.radio_parts_mount.specs.StatePart.{end_in}
-use Rattle.radio_parts_mount.specs.Sessions.{Session, session_of, GoNoFurther}
-use Rattle.radio_parts_mount.specs.Stream.{end_of}
-use Rattle.radio_parts_mount.proofs.PartLemmas.{none_changes}
-use Rattle.radio_parts_table.specs.declared.exchange.PartSwap.{PartSwap}
-use Rattle.radio_parts_mount.specs.declared.part.MountPart.{MountPart}
-use Rattle.radio_parts_table.specs.Agree.{AllAgree}
-use Rattle.radio_parts_table.specs.Exchange.{Comes, Stays, can_replace, left_for, put_for, same_source, same_name, first_true, second_true, of_mount, keeps_mount, IsInPlace, IsExchanged, IsUnfit}
-use Rattle.radio_parts_table.specs.Parts.{by_mount_of, live_in, IsNamed, AreNamed}
-use Rattle.radio_parts_mount.specs.Parts.{attached_to, is_part_of}
+use Rattle.std.proofs.Common.{◌≡◌, inl, inr, Bool, true, false, ℕ, ◌≤◌, max, Option, Some, None, List, [], ◌∷◌, refl, ap, sym, subst, ◌∙◌, arith}
+use Rattle.radio_parts_table.proofs.Words.{find, map, ◌==◌, ◌&&◌, if◌then◌else◌, option_map, option_map_or, slice_cmp, IsStrictlySortedBy, nat_cmp, bytes_eq, bytes_eq-Decides, update_first, Each_each, find_apart}
+use Rattle.radio_parts_table.proofs.Words.{find_here, find_later, found_passes, unchanged, end_in, Session, session_of, GoNoFurther, end_of, none_changes, PartSwap, MountPart, AllAgree, Comes, Stays, can_replace}
+use Rattle.radio_parts_table.proofs.Words.{left_for, put_for, same_source, same_name, first_true, second_true, of_mount, keeps_mount, IsInPlace, IsExchanged, IsUnfit, by_mount_of, live_in, IsNamed, AreNamed, attached_to}
+use Rattle.radio_parts_table.proofs.Words.{is_part_of}
 use Rattle.radio_parts_table.proofs.LiveLemmas.{its, live_none, live_some, session_found, AreRising}
 use Rattle.radio_parts_table.proofs.PartAttachments.{found_attached}
 use Rattle.radio_parts_table.proofs.PartLemmas.{AreWhole}

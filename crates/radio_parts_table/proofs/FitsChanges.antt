@@ -1,36 +1,11 @@
 -- attached to each mount is who sits there, after each change of the seats and of those who are attached
 use Rattle.std.proofs.Common.{◌≡◌, ◌⊎◌, inl, inr, Bool, true, false, ℕ, ◌==◌, Option, Some, None, List, [], ◌∷◌, refl, ap, sym, subst, ◌∙◌, arith}
-use Rattle.std.specs.Prelude.{map, is_some, ◌&&◌, if◌then◌else◌}
-use Rattle.std.specs.List.{AllByRecursion}
-use Rattle.std.specs.Option.{option_map, option_map_or}
-use Rattle.std.specs.Ordering.{nat_cmp}
-use Rattle.std.specs.Str.{bytes_eq}
-use Rattle.std.specs.declared.cmp.Ordering.TheVariants.{Less}
-use Rattle.std.proofs.lemmas.Bool.{eqb-true}
-use Rattle.std.proofs.lemmas.Bool.Decides.{nat_tests}
-use Rattle.std.proofs.lemmas.Map.Keys.{sorted_head, sorted_tail}
-use Rattle.std.proofs.lemmas.Slice.Eq.{bytes_eq-Decides}
-use Rattle.radio_tables.specs.Lists.{Each}
-use Rattle.radio_tables.proofs.FindLaws.{find_here, find_later, find_mapped, found_passes}
-use Rattle.radio_tables.proofs.KeyLaws.{by_number, by_name}
-use Rattle.radio_policy.specs.declared.rule.Rule.{Rule}
-use Rattle.radio_seats_rows.specs.declared.seat.Guest.{Guest}
-use Rattle.radio_seats_rows.specs.declared.seat.Listener.{Listener}
-use Rattle.radio_seats_rows.specs.declared.seat.Seat.{Seat}
-use Rattle.radio_seats_rows.specs.declared.seat.Seating.{Seating}
-use Rattle.radio_seats_rows.specs.declared.seat.Seating.TheVariants.{Sits, Finished}
-use Rattle.radio_seats_rows.specs.Guests.{passes_at}
-use Rattle.radio_seats_rows.specs.Seats.{is_listener, listener_of, seat_held, seat_in, seat_of, sits_at, last_mount, last_mount_of, AreByNumber}
-use Rattle.radio_seats_rows.specs.Seats.{with_seat, with_session_at, without_listener, with_ended, loses, lost_by}
+use Rattle.radio_parts_table.proofs.Words.{map, is_some, ◌&&◌, if◌then◌else◌, AllByRecursion, option_map, option_map_or, nat_cmp, bytes_eq, Less, eqb-true, nat_tests, sorted_head, sorted_tail, bytes_eq-Decides, Each}
+use Rattle.radio_parts_table.proofs.Words.{find_here, find_later, find_mapped, found_passes, by_number, by_name, Rule, Guest, Listener, Seat, Seating, Sits, Finished, passes_at, is_listener, listener_of, seat_held}
+use Rattle.radio_parts_table.proofs.Words.{seat_in, seat_of, sits_at, last_mount, last_mount_of, AreByNumber, with_seat, with_session_at, without_listener, with_ended, loses, lost_by, same_number, beside_seated}
+use Rattle.radio_parts_table.proofs.Words.{has_sat_down, beside_left, is_no_listener, numbers_of, Heard, OthersStay, Fits, GoesOver, GoesOff, sits_last, Attachment, ended_if_lost}
 use Rattle.radio_seats_rows.proofs.EndLaws.{same_or_loses, had_seat, LosesSeat}
 use Rattle.radio_seats_rows.proofs.GivenLaws.{seat_hearing, seat_of_hearing}
-use Rattle.radio_seats_rows.proofs.Lists.{same_number}
-use Rattle.radio_seats_rows.proofs.SeatLaws.{beside_seated, has_sat_down, beside_left, is_no_listener}
-use Rattle.radio_fallback.specs.Carry.{numbers_of}
-use Rattle.radio_fallback.specs.Heard.{Heard, OthersStay, Fits, GoesOver, GoesOff}
-use Rattle.radio_fallback.proofs.FitsLemmas.{sits_last}
-use Rattle.radio_attachments.specs.declared.attachment.Attachment.{Attachment}
-use Rattle.radio_parts_table.specs.Losses.{ended_if_lost}
 use Rattle.radio_parts_table.proofs.LossLemmas.{FitsHim}
 
 abbrev at_mount : List ℕ → Option Seat → Bool

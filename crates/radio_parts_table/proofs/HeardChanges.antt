@@ -1,24 +1,8 @@
 -- how far each has heard, after each change of the seats and of those who are attached
 use Rattle.std.proofs.Common.{◌≡◌, Bool, true, false, ℕ, ◌==◌, Some, List, [], ◌∷◌, refl, ap, sym, ◌∙◌, arith}
-use Rattle.std.specs.Prelude.{if◌then◌else◌, unwrap_or}
-use Rattle.std.specs.List.{AllByRecursion}
-use Rattle.std.specs.Ordering.{nat_cmp, match_ordering}
-use Rattle.std.specs.declared.cmp.Ordering.{Ordering}
-use Rattle.std.specs.declared.cmp.Ordering.TheVariants.{Less, Equal, Greater}
-use Rattle.std.proofs.lemmas.Bool.{eqb-true}
-use Rattle.std.proofs.lemmas.Bool.Decides.{nat_tests}
-use Rattle.std.proofs.lemmas.Map.Keys.{sorted_head, sorted_tail}
-use Rattle.radio_tables.specs.Lists.{placed, Each}
-use Rattle.radio_policy.specs.declared.rule.Rule.{Rule}
-use Rattle.radio_seats_rows.specs.declared.seat.Listener.{Listener}
-use Rattle.radio_seats_rows.specs.declared.seat.Seat.{Seat}
-use Rattle.radio_seats_rows.specs.declared.seat.Seating.{Seating}
-use Rattle.radio_seats_rows.specs.declared.seat.Seating.TheVariants.{Sits, Finished}
-use Rattle.radio_seats_rows.specs.Seats.{without_listener, AreByNumber, with_place, advanced, heard_to, with_session_at, hears_session, in_session_at}
-use Rattle.radio_seats_rows.specs.Seats.{with_ended, finished_if, ended_if, lost_by, with_seat, seated, by_listener, seat_held}
-use Rattle.radio_fallback.specs.Carry.{numbers_of}
-use Rattle.radio_fallback.specs.Heard.{Heard, heard_seating, heard_by, heard, OthersStay}
-use Rattle.radio_fallback.proofs.HeardLemmas.{all_stay, others_heard}
+use Rattle.radio_parts_table.proofs.Words.{if◌then◌else◌, unwrap_or, AllByRecursion, nat_cmp, match_ordering, Ordering, Less, Equal, Greater, eqb-true, nat_tests, sorted_head, sorted_tail, placed, Each, Rule, Listener}
+use Rattle.radio_parts_table.proofs.Words.{Seat, Seating, Sits, Finished, without_listener, AreByNumber, with_place, advanced, heard_to, with_session_at, hears_session, in_session_at, with_ended, finished_if, ended_if}
+use Rattle.radio_parts_table.proofs.Words.{lost_by, with_seat, seated, by_listener, seat_held, numbers_of, Heard, heard_seating, heard_by, heard, OthersStay, all_stay, others_heard}
 
 -- a session begins: nobody has heard more
 module _ (f : Heard) (mount : List ℕ) (session : ℕ) where

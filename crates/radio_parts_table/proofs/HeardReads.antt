@@ -1,22 +1,8 @@
 -- what is read of the listeners does not go by how far anybody has heard, but for a seat's place
-use Rattle.std.proofs.Common.{◌≡◌, Bool, true, false, ℕ, ◌==◌, Option, Some, None, List, [], ◌∷◌, length, refl, ap, sym, ◌∙◌}
-use Rattle.std.specs.Prelude.{min, fold, filter_map, unwrap_or}
-use Rattle.std.specs.Option.{option_map}
-use Rattle.std.specs.Str.{bytes_eq}
-use Rattle.std.proofs.lemmas.Bool.{eqb-true}
-use Rattle.radio_tables.proofs.FindLaws.{found_passes}
-use Rattle.radio_seats_rows.specs.declared.seat.Guest.{Guest}
-use Rattle.radio_seats_rows.specs.declared.seat.Listener.{Listener}
-use Rattle.radio_seats_rows.specs.declared.seat.Seat.{Seat}
-use Rattle.radio_seats_rows.specs.declared.seat.Seating.{Seating}
-use Rattle.radio_seats_rows.specs.declared.seat.Seating.TheVariants.{Sits, Finished}
-use Rattle.radio_seats_rows.specs.Guests.{moment_in, first_moment}
-use Rattle.radio_seats_rows.specs.Seats.{is_listener, listener_of, seat_held, seat_in, seat_of, last_mount, last_mount_of, named_at}
-use Rattle.radio_seats_rows.proofs.Lists.{map_counted}
-use Rattle.radio_seats.specs.Lent.{standing_in, standing_by}
-use Rattle.radio_seats.specs.Listed.{ListedGuest, guest_at, guest_sitting, guests_at}
-use Rattle.radio_fallback.specs.Heard.{Heard, heard_seating, heard_by, heard}
-use Rattle.radio_fallback.proofs.HeardLemmas.{listener_heard}
+use Rattle.std.proofs.Common.{◌≡◌, Bool, ℕ, Option, Some, None, List, [], ◌∷◌, length, refl, ap, ◌∙◌}
+use Rattle.radio_parts_table.proofs.Words.{min, fold, filter_map, unwrap_or, option_map, bytes_eq, eqb-true, found_passes, Guest, Listener, Seat, Seating, Sits, Finished, moment_in, first_moment, is_listener}
+use Rattle.radio_parts_table.proofs.Words.{listener_of, seat_held, seat_in, seat_of, last_mount, last_mount_of, named_at, map_counted, standing_in, standing_by, ListedGuest, guest_at, guest_sitting, guests_at, Heard}
+use Rattle.radio_parts_table.proofs.Words.{heard_seating, heard_by, heard, listener_heard}
 
 module _ (f : Heard) where
   -- a seat, with the place of the attachment

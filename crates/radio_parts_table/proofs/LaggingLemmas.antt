@@ -1,21 +1,9 @@
 -- the attachments that lag: one is among them exactly if it was found and lags, and then it is found no more
 use Rattle.std.proofs.Common.{◌≡◌, Bool, true, false, ℕ, ◌==◌, ◌-◌, Option, Some, None, List, [], ◌∷◌, not, refl, ap, sym, subst, ◌∙◌, arith}
-use Rattle.std.specs.Prelude.{find, filter, nat_lt, if◌then◌else◌}
-use Rattle.std.specs.Option.{option_map, option_map_or}
-use Rattle.std.specs.Str.{bytes_eq}
-use Rattle.std.proofs.lemmas.Bool.Decides.{nat_tests}
-use Rattle.radio_tables.specs.Lists.{update_first, Each}
-use Rattle.radio_tables.proofs.EachLaws.{Each_each}
-use Rattle.radio_tables.proofs.FindLaws.{find_here, find_later, finds_none}
-use Rattle.radio_attachments.specs.declared.attachment.Attachment.{Attachment}
-use Rattle.radio_attachments.specs.Rows.{is_attached, lags, IsBefore, AreInOrder}
+use Rattle.radio_parts_table.proofs.Words.{find, filter, nat_lt, if◌then◌else◌, option_map, option_map_or, bytes_eq, nat_tests, update_first, Each, Each_each, find_here, find_later, finds_none, Attachment, is_attached}
+use Rattle.radio_parts_table.proofs.Words.{lags, IsBefore, AreInOrder, has_part, MountAttachments, is_of_mount, attachments_in, found_in, places_in, without_lagging, is_among}
 use Rattle.radio_attachments.proofs.Forks.{each_filtered}
 use Rattle.radio_attachments.proofs.Order.{is_apart}
-use Rattle.radio_parts_table.specs.Parts.{has_part}
-use Rattle.radio_parts_mount.specs.Parts.{MountAttachments}
-use Rattle.radio_parts_table.specs.Attached.{is_of_mount, attachments_in, found_in, places_in}
-use Rattle.radio_parts_mount.specs.Attached.{without_lagging}
-use Rattle.radio_parts_mount.specs.Attached.{is_among}
 use Rattle.radio_parts_table.proofs.ByMountLemmas.{changed_here, changed_there, part_stays}
 
 abbrev place_in : Option Attachment → Option ℕ

@@ -1,26 +1,10 @@
 -- each listener has its turn, and loses its seat if it lags: that is all who lag
 use Rattle.std.proofs.Common.{◌≡◌, Bool, true, false, ℕ, ◌<◌, ◌==◌, Option, Some, None, List, [], ◌∷◌, length, refl, ap, sym, ◌∙◌, arith}
-use Rattle.std.specs.Prelude.{if◌then◌else◌, find, filter}
-use Rattle.std.specs.List.{AllByRecursion}
-use Rattle.std.specs.Option.{option_map, option_map_or}
-use Rattle.std.specs.Ordering.{nat_cmp}
-use Rattle.std.specs.declared.cmp.Ordering.TheVariants.{Less}
-use Rattle.std.proofs.lemmas.Bool.Decides.{nat_tests}
-use Rattle.std.proofs.lemmas.Map.Keys.{sorted_head, sorted_tail}
-use Rattle.radio_tables.specs.Lists.{Each}
+use Rattle.radio_parts_table.proofs.Words.{if◌then◌else◌, find, filter, AllByRecursion, option_map, option_map_or, nat_cmp, Less, nat_tests, sorted_head, sorted_tail, Each, find_here, find_later, find_mapped, Rule}
+use Rattle.radio_parts_table.proofs.Words.{Listener, Seat, Seating, Sits, Finished, is_listener, seat_in, seat_held, loses, lost_by, finished_if, next_number, with_end, with_ended, AreByNumber, same_number, numbers_of}
+use Rattle.radio_parts_table.proofs.Words.{numbers_past, Heard, heard, heard_by, after_turn, lags_now}
 use Rattle.radio_tables.specs.Past.{is_past}
-use Rattle.radio_tables.proofs.FindLaws.{find_here, find_later, find_mapped}
-use Rattle.radio_policy.specs.declared.rule.Rule.{Rule}
-use Rattle.radio_seats_rows.specs.declared.seat.Listener.{Listener}
-use Rattle.radio_seats_rows.specs.declared.seat.Seat.{Seat}
-use Rattle.radio_seats_rows.specs.declared.seat.Seating.{Seating}
-use Rattle.radio_seats_rows.specs.declared.seat.Seating.TheVariants.{Sits, Finished}
-use Rattle.radio_seats_rows.specs.Seats.{is_listener, seat_in, seat_held, loses, lost_by, finished_if, next_number, with_end, with_ended, AreByNumber}
-use Rattle.radio_seats_rows.proofs.Lists.{same_number}
-use Rattle.radio_fallback.specs.Carry.{numbers_of, numbers_past}
-use Rattle.radio_fallback.specs.Heard.{Heard, heard, heard_by}
 use Rattle.radio_fallback.proofs.CarryLemmas.{everybody_is_past, next_has_his_turn, nobody_is_next}
-use Rattle.radio_parts_table.specs.Lent.{after_turn, lags_now}
 
 -- the next number is the same with the places of the attachments
 pub next_heard : (f : Heard) (last : Option ℕ) (seats : List Listener) → next_number (heard f seats) last ≡ next_number seats last

@@ -1,30 +1,8 @@
 -- a part has taken the place of another: what is seen of the listeners then
 use Rattle.std.proofs.Common.{◌≡◌, Bool, true, false, ℕ, ◌==◌, Option, Some, None, List, [], ◌∷◌, not, refl, ap, sym, subst, ◌∙◌}
-use Rattle.std.specs.Prelude.{◌||◌, filter, find, if◌then◌else◌, is_some, map, unwrap_or}
-use Rattle.std.specs.Option.{option_map, option_map_or}
-use Rattle.std.specs.Str.{bytes_eq}
-use Rattle.std.proofs.lemmas.Bool.{eqb-true}
-use Rattle.std.proofs.lemmas.Slice.Eq.{bytes_eq-Decides}
-use Rattle.radio_tables.specs.Lists.{Each}
-use Rattle.radio_tables.proofs.KeyLaws.{by_name}
-use Rattle.radio_policy.specs.declared.rule.Rule.TheVariants.{Lagged}
-use Rattle.radio_seats_rows.specs.declared.seat.Listener.{Listener}
-use Rattle.radio_seats_rows.specs.declared.seat.Seat.{Seat}
-use Rattle.radio_seats_rows.specs.declared.seat.Seating.{Seating}
-use Rattle.radio_seats_rows.specs.declared.seat.Seating.TheVariants.{Sits, Finished}
-use Rattle.radio_seats_rows.specs.Seats.{listener_of, lost_by, seat_held, seat_in, seat_of, sits_at, AreByNumber}
-use Rattle.radio_attachments.specs.declared.attachment.Attachment.{Attachment}
-use Rattle.radio_attachments.specs.Rows.{is_attached}
-use Rattle.radio_fallback.specs.Heard.{Heard, heard, heard_by, heard_seating}
-use Rattle.radio_parts_table.specs.Agree.{AllAgree}
-use Rattle.radio_parts_table.specs.Attached.{found_in, places_in}
-use Rattle.radio_parts_mount.specs.Attached.{is_among, place_in}
-use Rattle.radio_parts_table.specs.Exchange.{IsExchanged}
-use Rattle.radio_parts_table.specs.Parts.{ByMount, has_part}
-use Rattle.radio_parts_mount.specs.Parts.{MountAttachments}
-use Rattle.radio_parts_mount.specs.declared.part.MountPart.{MountPart}
-use Rattle.radio_parts_table.specs.Lent.{AsBefore, HeardTo, LaggedOut, HaveTheirPlaces, IsLent, IsSeenAfter}
-use Rattle.radio_parts_table.specs.Losses.{ended_if_lost}
+use Rattle.radio_parts_table.proofs.Words.{◌||◌, filter, find, if◌then◌else◌, is_some, map, unwrap_or, option_map, option_map_or, bytes_eq, eqb-true, bytes_eq-Decides, Each, by_name, Lagged, Listener, Seat, Seating}
+use Rattle.radio_parts_table.proofs.Words.{Sits, Finished, listener_of, lost_by, seat_held, seat_in, seat_of, sits_at, AreByNumber, Attachment, is_attached, Heard, heard, heard_by, heard_seating, AllAgree, found_in}
+use Rattle.radio_parts_table.proofs.Words.{places_in, is_among, place_in, IsExchanged, ByMount, has_part, MountAttachments, MountPart, AsBefore, HeardTo, LaggedOut, HaveTheirPlaces, IsLent, IsSeenAfter, ended_if_lost}
 use Rattle.radio_parts_table.proofs.FitsChanges.{each_found, seat_left}
 use Rattle.radio_parts_table.proofs.HeardReads.{heard_seat, seat_heard}
 

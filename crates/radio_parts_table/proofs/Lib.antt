@@ -17,3 +17,4 @@ pub mod Threads
 pub mod PlaceNotes
 pub mod LaggingTurns
 pub mod LentLemmas
+mod Words

@@ -1,36 +1,10 @@
 -- what the listeners show after each change: the changed table, with the places of the attachments
 use Rattle.std.proofs.Common.{◌≡◌, inl, inr, Bool, true, false, ℕ, ◌==◌, ◌-◌, ◌<◌, Option, Some, None, List, [], ◌∷◌, not, refl, ap, sym, subst, ◌∙◌, arith}
-use Rattle.std.specs.Prelude.{is_some, nat_lt, if◌then◌else◌, unwrap_or, MatchOption}
-use Rattle.std.specs.List.{AllByRecursion}
-use Rattle.std.specs.Option.{option_map, option_map_or}
-use Rattle.std.specs.Ordering.{nat_cmp, match_ordering}
-use Rattle.std.specs.Str.{bytes_eq}
-use Rattle.std.specs.declared.cmp.Ordering.{Ordering}
-use Rattle.std.specs.declared.cmp.Ordering.TheVariants.{Less, Equal, Greater}
-use Rattle.std.proofs.lemmas.Bool.Decides.{nat_tests}
-use Rattle.std.proofs.lemmas.Map.Keys.{sorted_head, sorted_tail}
-use Rattle.radio_tables.specs.Lists.{update_first, Each}
-use Rattle.radio_tables.proofs.EachLaws.{Each_each}
-use Rattle.radio_tables.proofs.FindLaws.{find_here, find_later}
-use Rattle.radio_tables.proofs.KeyLaws.{by_name}
-use Rattle.radio_policy.specs.declared.rule.Rule.{Rule}
-use Rattle.radio_seats_rows.specs.declared.seat.Guest.{Guest}
-use Rattle.radio_seats_rows.specs.declared.seat.Listener.{Listener}
-use Rattle.radio_seats_rows.specs.declared.seat.Seat.{Seat}
-use Rattle.radio_seats_rows.specs.declared.seat.Seating.{Seating}
-use Rattle.radio_seats_rows.specs.declared.seat.Seating.TheVariants.{Sits, Finished}
-use Rattle.radio_seats_rows.specs.Guests.{passes_in, passes_at}
-use Rattle.radio_seats_rows.specs.Rests.{how_many}
-use Rattle.radio_seats_rows.specs.Seats.{is_listener, listener_of, seat_held, seat_in, seat_of, seated, sits_at, holds_of, AreByNumber}
-use Rattle.radio_seats_rows.specs.Seats.{with_seat, with_place, without_listener, with_ended, with_end, advanced, loses}
-use Rattle.radio_seats_rows.proofs.Lists.{map_counted}
-use Rattle.radio_seats_rows.proofs.SeatLaws.{listener_seated}
-use Rattle.radio_parts_mount.specs.Timeouts.{lags_behind}
-use Rattle.radio_fallback.specs.Carry.{numbers_of}
-use Rattle.radio_fallback.specs.Heard.{Heard, heard_seating, heard_by, heard, OthersStay, IsAt, Fits, GoesOver}
-use Rattle.radio_fallback.proofs.HeardLemmas.{all_stay, others_heard, each_apart, seating_stays}
-use Rattle.radio_parts_mount.specs.Sessions.{Session}
-use Rattle.radio_parts_table.specs.Listening.{Listening}
+use Rattle.radio_parts_table.proofs.Words.{is_some, nat_lt, if◌then◌else◌, unwrap_or, MatchOption, AllByRecursion, option_map, option_map_or, nat_cmp, match_ordering, bytes_eq, Ordering, Less, Equal, Greater, nat_tests}
+use Rattle.radio_parts_table.proofs.Words.{sorted_head, sorted_tail, update_first, Each, Each_each, find_here, find_later, by_name, Rule, Guest, Listener, Seat, Seating, Sits, Finished, passes_in, passes_at, how_many}
+use Rattle.radio_parts_table.proofs.Words.{is_listener, listener_of, seat_held, seat_in, seat_of, seated, sits_at, holds_of, AreByNumber, with_seat, with_place, without_listener, with_ended, with_end, advanced, loses}
+use Rattle.radio_parts_table.proofs.Words.{map_counted, listener_seated, lags_behind, numbers_of, Heard, heard_seating, heard_by, heard, OthersStay, IsAt, Fits, GoesOver, all_stay, others_heard, each_apart}
+use Rattle.radio_parts_table.proofs.Words.{seating_stays, Session, Listening}
 use Rattle.radio_parts_table.proofs.FitsChanges.{after_test, sitters_agree, each_found, all_fit, after_losses}
 use Rattle.radio_parts_table.proofs.HeardChanges.{further_heard, ended_by_heard, same_sitters}
 use Rattle.radio_parts_table.proofs.HeardReads.{heard_seat, seat_heard}

@@ -1,24 +1,8 @@
 -- the sessions among the parts, after a part has changed
 use Rattle.std.proofs.Common.{◌≡◌, Bool, true, false, ℕ, Option, Some, None, List, [], ◌∷◌, not, refl, ap, sym, subst, ◌∙◌}
-use Rattle.std.specs.Prelude.{find, filter, map, is_some, if◌then◌else◌}
-use Rattle.std.specs.Cmp.Lexicographic.{slice_cmp}
-use Rattle.std.specs.List.{AllByRecursion}
-use Rattle.std.specs.List.Sorted.{IsStrictlySortedBy}
-use Rattle.std.specs.Option.{option_map, option_and_then}
-use Rattle.std.specs.Ordering.{nat_cmp, is_eq, match_ordering, ordering_reverse}
-use Rattle.std.specs.declared.cmp.Ordering.{Ordering}
-use Rattle.std.specs.declared.cmp.Ordering.TheVariants.{Less, Equal, Greater}
-use Rattle.std.specs.Str.{bytes_eq}
-use Rattle.std.proofs.lemmas.Cmp.{nat_list_cmp_total}
-use Rattle.std.proofs.lemmas.Slice.Eq.{bytes_eq-Decides}
-use Rattle.radio_tables.specs.Lists.{update_first, placed, Each}
-use Rattle.radio_tables.proofs.FindLaws.{find_here, find_later, finds_none}
-use Rattle.radio_tables.proofs.KeyLaws.{name_is}
-use Rattle.radio_parts_mount.specs.Sessions.{Session, is_of, session_of, by_mount, with_session, without_session}
-use Rattle.radio_parts_mount.proofs.PartLemmas.{none_changes}
-use Rattle.radio_parts_mount.specs.declared.part.MountPart.{MountPart}
-use Rattle.radio_parts_table.specs.Parts.{live_in, IsNamed, AreNamed}
-use Rattle.radio_parts_mount.specs.Parts.{is_part_of, with_session_in, with_session_changed}
+use Rattle.radio_parts_table.proofs.Words.{find, filter, map, is_some, if◌then◌else◌, slice_cmp, AllByRecursion, IsStrictlySortedBy, option_map, option_and_then, nat_cmp, is_eq, match_ordering, ordering_reverse}
+use Rattle.radio_parts_table.proofs.Words.{Ordering, Less, Equal, Greater, bytes_eq, nat_list_cmp_total, bytes_eq-Decides, update_first, placed, Each, find_here, find_later, finds_none, name_is, Session, is_of}
+use Rattle.radio_parts_table.proofs.Words.{session_of, by_mount, with_session, without_session, none_changes, MountPart, live_in, IsNamed, AreNamed, is_part_of, with_session_in, with_session_changed}
 
 abbrev names : List MountPart → List (List ℕ)
 names parts = map (λ (part : MountPart). part.mount) parts

@@ -1,25 +1,8 @@
 -- those lose their seats whom a part has found to lag: ended one by one, they are all who lag at the mount
 use Rattle.std.proofs.Common.{◌≡◌, Bool, true, false, ℕ, ◌==◌, Option, Some, None, List, [], ◌∷◌, refl, ap, sym, subst, ◌∙◌, arith}
-use Rattle.std.specs.Prelude.{map, is_some, ◌&&◌, ◌||◌, if◌then◌else◌, unwrap_or}
-use Rattle.std.specs.List.{AllByRecursion}
-use Rattle.std.specs.Option.{option_map_or}
-use Rattle.std.specs.Ordering.{nat_cmp}
-use Rattle.std.specs.Str.{bytes_eq}
-use Rattle.std.specs.declared.cmp.Ordering.TheVariants.{Less}
-use Rattle.std.proofs.lemmas.Bool.Decides.{nat_tests}
-use Rattle.std.proofs.lemmas.Map.Keys.{sorted_head, sorted_tail}
-use Rattle.std.proofs.lemmas.Slice.Eq.{bytes_eq-Decides}
-use Rattle.radio_tables.specs.Lists.{Each}
-use Rattle.radio_policy.specs.declared.rule.Rule.{Rule}
-use Rattle.radio_seats_rows.specs.declared.seat.Listener.{Listener}
-use Rattle.radio_seats_rows.specs.declared.seat.Seat.{Seat}
-use Rattle.radio_seats_rows.specs.declared.seat.Seating.{Seating}
-use Rattle.radio_seats_rows.specs.declared.seat.Seating.TheVariants.{Sits, Finished}
-use Rattle.radio_seats_rows.specs.Seats.{seat_held, loses, lost_by, with_end, with_ended, finished_if, ended_if, AreByNumber}
-use Rattle.radio_fallback.specs.Carry.{numbers_of}
-use Rattle.radio_fallback.specs.Heard.{Heard, heard_seating, heard_by, heard}
-use Rattle.radio_parts_table.specs.Losses.{ended_if_lost}
-use Rattle.radio_parts_mount.specs.Attached.{is_among}
+use Rattle.radio_parts_table.proofs.Words.{map, is_some, ◌&&◌, ◌||◌, if◌then◌else◌, unwrap_or, AllByRecursion, option_map_or, nat_cmp, bytes_eq, Less, nat_tests, sorted_head, sorted_tail, bytes_eq-Decides, Each, Rule}
+use Rattle.radio_parts_table.proofs.Words.{Listener, Seat, Seating, Sits, Finished, seat_held, loses, lost_by, with_end, with_ended, finished_if, ended_if, AreByNumber, numbers_of, Heard, heard_seating, heard_by, heard}
+use Rattle.radio_parts_table.proofs.Words.{ended_if_lost, is_among}
 
 -- it is attached where it sits, and nowhere else
 abbrev pub FitsHim : Heard → Listener → Type 0

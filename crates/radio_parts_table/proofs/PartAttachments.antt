@@ -1,20 +1,8 @@
 -- the parts, after the attachments of one have changed
 use Rattle.std.proofs.Common.{◌≡◌, Bool, true, false, ℕ, Option, Some, None, List, [], ◌∷◌, refl, ap, sym, subst, ◌∙◌}
-use Rattle.std.specs.Prelude.{find, filter, not, if◌then◌else◌}
-use Rattle.std.specs.Cmp.Lexicographic.{slice_cmp}
-use Rattle.std.specs.Ordering.{nat_cmp, match_ordering}
-use Rattle.std.specs.declared.cmp.Ordering.{Ordering}
-use Rattle.std.specs.declared.cmp.Ordering.TheVariants.{Less, Equal, Greater}
-use Rattle.std.specs.Option.{option_map}
-use Rattle.radio_tables.specs.Lists.{update_first, placed, Each}
-use Rattle.radio_tables.proofs.EachLaws.{Each_each, Each_kept, Each_updated, Each_placed}
-use Rattle.radio_tables.proofs.FindLaws.{find_here, find_later, passes_none}
-use Rattle.radio_parts_mount.specs.Sessions.{GoNoFurther}
-use Rattle.radio_parts_mount.specs.declared.part.MountPart.{MountPart}
-use Rattle.radio_parts_table.specs.Parts.{IsNamed, by_mount_of, attached_in}
-use Rattle.radio_parts_mount.specs.Parts.{is_part_of, MountAttachments, attached_to}
-use Rattle.radio_parts_table.specs.Attached.{is_of_mount, with_attached}
-use Rattle.radio_parts_mount.specs.Attached.{on_part}
+use Rattle.radio_parts_table.proofs.Words.{find, filter, not, if◌then◌else◌, slice_cmp, nat_cmp, match_ordering, Ordering, Less, Equal, Greater, option_map, update_first, placed, Each, Each_each, Each_kept, Each_updated}
+use Rattle.radio_parts_table.proofs.Words.{Each_placed, find_here, find_later, passes_none, GoNoFurther, MountPart, IsNamed, by_mount_of, attached_in, is_part_of, MountAttachments, attached_to, is_of_mount}
+use Rattle.radio_parts_table.proofs.Words.{with_attached, on_part}
 use Rattle.radio_parts_table.proofs.LiveLemmas.{AreRising, are_others, rest_rises, part_added, part_removed, sessions_left}
 use Rattle.radio_parts_table.proofs.PartLemmas.{AreWhole, attached_changed, both_so}
 

@@ -1,19 +1,8 @@
 -- the parts, after the session of one has changed
 use Rattle.std.proofs.Common.{◌≡◌, Bool, true, false, ℕ, max, Option, Some, None, List, [], ◌∷◌, refl, ap, sym, subst, ◌∙◌, ◌≤◌, arith}
-use Rattle.std.specs.Prelude.{find, is_some, if◌then◌else◌}
-use Rattle.std.specs.Option.{option_map}
-use Rattle.std.specs.Str.{bytes_eq}
-use Rattle.std.proofs.lemmas.Slice.Eq.{bytes_eq-Decides}
-use Rattle.radio_tables.specs.Lists.{update_first}
-use Rattle.radio_tables.proofs.EachLaws.{Each_each, Each_updated, Each_placed}
-use Rattle.radio_parts_mount.specs.Kept.{longer_kept, kept_fed}
-use Rattle.radio_parts_mount.specs.StatePart.{end_in}
-use Rattle.radio_parts_mount.specs.Sessions.{Session, GoNoFurther, is_of, by_mount, session_of, with_session, with_title, without_session}
-use Rattle.radio_parts_mount.specs.Stream.{end_of}
-use Rattle.radio_parts_mount.proofs.FurthestLemmas.{closed_within, titled_within, delivered_within}
-use Rattle.radio_parts_mount.specs.declared.part.MountPart.{MountPart}
-use Rattle.radio_parts_table.specs.Parts.{live_in, IsNamed, AreNamed, ByMount, by_mount_of, with_live, attached_in, has_part}
-use Rattle.radio_parts_mount.specs.Parts.{is_part_of, with_session_in, with_session_changed, MountAttachments, attached_to}
+use Rattle.radio_parts_table.proofs.Words.{find, is_some, if◌then◌else◌, option_map, bytes_eq, bytes_eq-Decides, update_first, Each_each, Each_updated, Each_placed, longer_kept, kept_fed, end_in, Session, GoNoFurther}
+use Rattle.radio_parts_table.proofs.Words.{is_of, by_mount, session_of, with_session, with_title, without_session, end_of, closed_within, titled_within, delivered_within, MountPart, live_in, IsNamed, AreNamed, ByMount}
+use Rattle.radio_parts_table.proofs.Words.{by_mount_of, with_live, attached_in, has_part, is_part_of, with_session_in, with_session_changed, MountAttachments, attached_to}
 use Rattle.radio_parts_table.proofs.LiveLemmas.{AreRising, session_changed, session_ended, session_begun}
 
 -- no session goes further, and each has the name of its mount

@@ -1,12 +1,6 @@
 -- the place of a listener is that of its mount's part
 use Rattle.std.proofs.Common.{◌≡◌, ℕ, Option, List, ap, sym, ◌∙◌}
-use Rattle.std.specs.Prelude.{find}
-use Rattle.std.specs.Option.{option_map}
-use Rattle.radio_parts_mount.specs.declared.part.MountPart.{MountPart}
-use Rattle.radio_parts_table.specs.Parts.{ByMount, by_mount_of}
-use Rattle.radio_parts_mount.specs.Parts.{MountAttachments, attached_to, is_part_of}
-use Rattle.radio_parts_table.specs.Attached.{found_in, places_in}
-use Rattle.radio_parts_mount.specs.Attached.{place_in}
+use Rattle.radio_parts_table.proofs.Words.{find, option_map, MountPart, ByMount, by_mount_of, MountAttachments, attached_to, is_part_of, found_in, places_in, place_in}
 use Rattle.radio_parts_table.proofs.PartAttachments.{found_through}
 
 pub place_seen : (parts : List MountPart) (now : ByMount) (mount : List ℕ) (id : ℕ) (found : Option MountPart) → by_mount_of parts ≡ now

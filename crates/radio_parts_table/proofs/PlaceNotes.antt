@@ -1,22 +1,8 @@
 -- one has heard more: its attachment has the place, and so has its seat if not all parts are here
 use Rattle.std.proofs.Common.{◌≡◌, inl, inr, Bool, true, false, ℕ, ◌==◌, Option, Some, None, List, [], ◌∷◌, refl, ap, sym, subst, ◌∙◌, arith}
-use Rattle.std.specs.Prelude.{if◌then◌else◌, unwrap_or}
-use Rattle.std.specs.List.{AllByRecursion}
-use Rattle.std.specs.Ordering.{nat_cmp}
-use Rattle.std.specs.declared.cmp.Ordering.TheVariants.{Less}
-use Rattle.std.proofs.lemmas.Bool.{eqb-true}
-use Rattle.std.proofs.lemmas.Bool.Decides.{nat_tests}
-use Rattle.std.proofs.lemmas.Map.Keys.{sorted_head, sorted_tail}
-use Rattle.radio_tables.specs.Lists.{Each}
-use Rattle.radio_seats_rows.specs.declared.seat.Listener.{Listener}
-use Rattle.radio_seats_rows.specs.declared.seat.Seat.{Seat}
-use Rattle.radio_seats_rows.specs.declared.seat.Seating.{Seating}
-use Rattle.radio_seats_rows.specs.declared.seat.Seating.TheVariants.{Sits, Finished}
-use Rattle.radio_seats_rows.specs.Seats.{seat_held, seat_of, heard_to, advanced, with_place, AreByNumber}
-use Rattle.radio_seats_rows.proofs.SeatLaws.{listener_seated}
-use Rattle.radio_fallback.specs.Carry.{numbers_of}
-use Rattle.radio_fallback.specs.Heard.{Heard, heard, heard_by, heard_seating, OthersStay, IsAt, Fits, GoesOver}
-use Rattle.radio_fallback.proofs.HeardLemmas.{all_stay, each_apart, seating_stays}
+use Rattle.radio_parts_table.proofs.Words.{if◌then◌else◌, unwrap_or, AllByRecursion, nat_cmp, Less, eqb-true, nat_tests, sorted_head, sorted_tail, Each, Listener, Seat, Seating, Sits, Finished, seat_held, seat_of}
+use Rattle.radio_parts_table.proofs.Words.{heard_to, advanced, with_place, AreByNumber, listener_seated, numbers_of, Heard, heard, heard_by, heard_seating, OthersStay, IsAt, Fits, GoesOver, all_stay, each_apart}
+use Rattle.radio_parts_table.proofs.Words.{seating_stays}
 use Rattle.radio_parts_table.proofs.FitsChanges.{further_fits}
 use Rattle.radio_parts_table.proofs.ListenersLemmas.{has_heard, of_his}
 

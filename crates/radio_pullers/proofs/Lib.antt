@@ -1,1 +1,2 @@
 pub mod ThreadLemmas
+mod Words

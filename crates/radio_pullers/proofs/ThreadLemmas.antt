@@ -10,11 +10,9 @@ use Rattle.radio_masters.specs.declared.relay_end.RelayEnd.{RelayEnd}
 use Rattle.radio_masters.specs.Pulls.{Comes, IsPullTurn, PullOver}
 use Rattle.radio_relay.specs.Course.{GoesDown, RefusesDown}
 use Rattle.radio_relay.specs.Pulling.{Pulling}
-use Rattle.radio_pullers.specs.Running.{Begun}
-use Rattle.radio_pullers.specs.Threads.{HasGoneOn, HasPulled, HasHadTurns, IsLetDown, IsNewPull, IsPullOf, no_pull, no_turn, one_pull, one_turn}
+use Rattle.radio_pullers.proofs.Words.{Begun, HasGoneOn, HasPulled, HasHadTurns, IsLetDown, IsNewPull, IsPullOf, no_pull, no_turn, one_pull, one_turn, RelaySetting}
 use Rattle.radio_pullers.specs.Turns.{MayTurn}
 use Rattle.radio_serving.specs.Watching.{WatchedOf, WatchedSteps}
-use Rattle.radio_settings_values.specs.declared.settings.RelaySetting.{RelaySetting}
 use Rattle.radio_tries.specs.Pulls.{EndsBy, is_late}
 
 some_none : {end : RelayEnd} → Some end ≡ None → ⊥

@@ -1,12 +1,8 @@
 -- What came about of items, and what before memory was refused.
 use Rattle.std.proofs.Common.{◌≡◌, ◌⊎◌, inl, inr, ℕ, List, ◌∷◌, Option, Some, Result, Ok, Err, OnErr, sym, subst}
-use Rattle.radio_events.specs.declared.event.Event.{Event}
+use Rattle.radio_relay.proofs.Words.{Event, Running, PullItem, Asks, AsksAtMost, BringsItems, BringsAtMost, Follows, Onwards, OnwardsAtMost, MakingTakesMemory, NumberedState, event_for}
 use Rattle.radio_events.specs.declared.state.State.{State}
-use Rattle.radio_events.specs.declared.state.State.TheVariants.{Running}
 use Rattle.radio_events.specs.Servers.{Steps}
-use Rattle.radio_relay.specs.declared.items.PullItem.{PullItem}
-use Rattle.radio_relay.specs.Course.{Asks, AsksAtMost, BringsItems, BringsAtMost, Follows, Onwards, OnwardsAtMost}
-use Rattle.radio_relay.specs.Pulling.{MakingTakesMemory, NumberedState, event_for}
 
 pub on_err : {T E P : Type 0} (result : Result T E) → P → OnErr result P
 on_err (Ok value) holds = tt

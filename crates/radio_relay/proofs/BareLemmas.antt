@@ -1,12 +1,10 @@
 -- The sound and the titles that are pulled in.
 use Rattle.std.proofs.Common.{◌≡◌, ℕ, List, [], ◌∷◌, ◌++◌, map, ap, ◌∙◌, refl, Option, None, Some}
-use Rattle.radio_icy.specs.Bare.{bare, block_texts, sound_in as sound_heard, texts_in}
+use Rattle.radio_relay.proofs.Words.{bare, block_texts, texts_in, title_of, StreamItem, SoundByte, WholeText, new_unweaving, atoms_of_piece, PulledPart, SoundPart, title_parts, parts_heard, sound_of_parts, titles_in}
+use Rattle.radio_relay.proofs.Words.{titles_of_texts, PlainIsSound, WovenIsBare}
+use Rattle.radio_icy.specs.Bare.{sound_in as sound_heard}
 use Rattle.radio_values.specs.Cleaning.{cleaned}
 use Rattle.radio_values.specs.Limits.{max_title}
-use Rattle.radio_icy.specs.Titles.{title_of}
-use Rattle.radio_icy.specs.Unweaving.{StreamItem, SoundByte, WholeText, new_unweaving, atoms_of_piece}
-use Rattle.radio_relay.specs.Pulled.{PulledPart, SoundPart, title_parts, parts_heard}
-use Rattle.radio_relay.specs.Laws.{sound_of_parts, titles_in, titles_of_texts, PlainIsSound, WovenIsBare}
 
 -- plain sound
 plain-sound : (bytes : List ℕ) → sound_of_parts (map (λ b. SoundPart b) bytes) ≡ bytes

@@ -1,25 +1,13 @@
 -- However an answer is cut, the same is pulled in.
 use Rattle.std.proofs.Common.{◌≡◌, ℕ, List, [], ◌∷◌, ◌++◌, drop, ap, sym}
 use Rattle.std.proofs.Common.{◌∙◌, refl, subst, inl, inr, Option, Result, Ok, Err, IsErr, append_assoc, append-nil, arith}
-use Rattle.std.proofs.lemmas.Grind.{flat_map-append}
-use Rattle.std.proofs.lemmas.List.{drop-append-le, map-append}
-use Rattle.std.specs.List.{concat}
-use Rattle.radio_heads.specs.declared.outcome.Progress.{Progress}
-use Rattle.radio_heads.specs.declared.outcome.Progress.TheVariants.{More, Whole}
+use Rattle.radio_relay.proofs.Words.{flat_map-append, drop-append-le, map-append, concat, Progress, More, Whole, IsReading, ResponseParts, ShowsResponse, ReadingsAgree, IsStableReading, HeadsLieWithin, Unweaving}
+use Rattle.radio_relay.proofs.Words.{atoms_of_piece, after_feeding, heard_by_pieces, after_pieces, PullStage, Head, Behind, Over, PulledStream, interval_in, shown_in_response, PulledPart, ShownPart, SoundPart}
+use Rattle.radio_relay.proofs.Words.{parts_of_atom, parts_heard, stream_parts, after_bytes, stream_with, PullProgress, GoesOn, Stops, Pulled, goes_on, stream_pulled, pulled_by_interval, answer_pulled, pulled_as}
+use Rattle.radio_relay.proofs.Words.{IsPulled, IsPulledAt}
 use Rattle.radio_heads.specs.declared.outcome.HeadFault.{HeadFault}
-use Rattle.radio_heads.specs.Reading.{IsReading}
-use Rattle.radio_heads.specs.Response.{ResponseParts, ShowsResponse}
-use Rattle.radio_heads.specs.Laws.{ReadingsAgree, IsStableReading, HeadsLieWithin}
-use Rattle.radio_icy.specs.Unweaving.{Unweaving, atoms_of_piece, after_feeding, heard_by_pieces, after_pieces}
 use Rattle.radio_relay.specs.declared.fault.PullFault.{PullFault}
-use Rattle.radio_relay.specs.declared.pull.PullStage.{PullStage}
-use Rattle.radio_relay.specs.declared.pull.PullStage.TheVariants.{Head, Behind, Over}
-use Rattle.radio_relay.specs.declared.stream.PulledStream.{PulledStream}
 use Rattle.radio_relay.specs.declared.stream.PulledStream.TheVariants.{Plain, Woven}
-use Rattle.radio_relay.specs.Answer.{interval_in, shown_in_response}
-use Rattle.radio_relay.specs.Pulled.{PulledPart, ShownPart, SoundPart, parts_of_atom, parts_heard, stream_parts, after_bytes, stream_with}
-use Rattle.radio_relay.specs.Pulled.{PullProgress, GoesOn, Stops, Pulled, goes_on}
-use Rattle.radio_relay.specs.Pulled.{stream_pulled, pulled_by_interval, answer_pulled, pulled_as, IsPulled, IsPulledAt}
 use Rattle.radio_relay.specs.Cuts.{behind, Continues, IsPulledIn, PiecesArePulledAsOne, PullingIsOne}
 
 -- two faults pull in the same

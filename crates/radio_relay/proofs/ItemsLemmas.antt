@@ -1,12 +1,7 @@
 -- Items that are gathered one part after another.
 use Rattle.std.proofs.Common.{◌≡◌, ℕ, List, [], ◌∷◌, ◌++◌, map, ap, sym, ◌∙◌, refl, append_assoc, append-nil}
-use Rattle.std.proofs.lemmas.Grind.{flat_map-append}
-use Rattle.radio_icy.specs.declared.items.Item.{Item}
-use Rattle.radio_icy.specs.Items.{atoms_of, atoms_of_item}
-use Rattle.radio_icy.specs.Titles.{title_of}
-use Rattle.radio_icy.specs.Unweaving.{SoundByte, WholeText}
-use Rattle.radio_relay.specs.Pulled.{PulledPart, SoundPart, title_parts, parts_of_atom, parts_heard}
-use Rattle.radio_relay.specs.Items.{Gathered, nothing_gathered, all_items, with_gathered_part, with_parts, items_of}
+use Rattle.radio_relay.proofs.Words.{flat_map-append, Item, atoms_of, atoms_of_item, title_of, SoundByte, WholeText, PulledPart, SoundPart, title_parts, parts_of_atom, parts_heard, Gathered, nothing_gathered, all_items}
+use Rattle.radio_relay.proofs.Words.{with_gathered_part, with_parts, items_of}
 
 -- sound makes the run longer
 pub with_parts_of_sound : (g : Gathered) (sound : List ℕ) → with_parts g (map (λ b. SoundPart b) sound) ≡ record g { run = g.run ++ sound }

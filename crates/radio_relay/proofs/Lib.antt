@@ -5,3 +5,4 @@ pub mod RequestLemmas
 pub mod CutLemmas
 pub mod BareLemmas
 pub mod RelayLemmas
+mod Words

@@ -1,17 +1,8 @@
 -- What is pulled in, by what a head is read as.
 use Rattle.std.proofs.Common.{◌≡◌, ℕ, List, [], ◌++◌, map, ap, sym, ◌∙◌, refl, Result, Ok, Err}
-use Rattle.std.specs.Prelude.{IfOk}
+use Rattle.radio_relay.proofs.Words.{IfOk, More, IsReading, ShowsResponse, PullItem, Sound, PullStage, Head, Behind, PulledStream, goes_on, stream_pulled, stream_parts, after_bytes, Gathered, nothing_gathered, all_items}
+use Rattle.radio_relay.proofs.Words.{with_parts, items_of, GivesItems}
 use Rattle.radio_blocks.specs.Cutting.{blocks_of}
-use Rattle.radio_heads.specs.declared.outcome.Progress.TheVariants.{More}
-use Rattle.radio_heads.specs.Reading.{IsReading}
-use Rattle.radio_heads.specs.Response.{ShowsResponse}
-use Rattle.radio_relay.specs.declared.items.PullItem.{PullItem}
-use Rattle.radio_relay.specs.declared.items.PullItem.TheVariants.{Sound}
-use Rattle.radio_relay.specs.declared.pull.PullStage.{PullStage}
-use Rattle.radio_relay.specs.declared.pull.PullStage.TheVariants.{Head, Behind}
-use Rattle.radio_relay.specs.declared.stream.PulledStream.{PulledStream}
-use Rattle.radio_relay.specs.Pulled.{goes_on, stream_pulled, stream_parts, after_bytes}
-use Rattle.radio_relay.specs.Items.{Gathered, nothing_gathered, all_items, with_parts, items_of, GivesItems}
 
 -- no parts are no items
 pub items_of-none : blocks_of [] ≡ [] → items_of [] ≡ []

@@ -1,36 +1,26 @@
 -- What this server sends to a listener, pulled in by another.
 use Rattle.std.proofs.Common.{◌≡◌, ℕ, zero, suc, ◌+◌, ◌%◌, ◌<◌, ◌≤◌, ◌^◌, Bool, true, false, not, ◌&&◌, leb, if◌then◌else◌, List}
 use Rattle.std.proofs.Common.{[], ◌∷◌, ◌++◌, length, map, reverse, ap, sym, ◌∙◌, refl, subst, arith, Option, None, Some, Ok, Err}
-use Rattle.std.specs.Prelude.{codes, decimal, is_some, IfSome}
-use Rattle.std.proofs.lemmas.Bool.{lt-ltb, le-leb, leb-true, and_from, and_parts, cond-false, not-true}
+use Rattle.radio_relay.proofs.Words.{codes, decimal, is_some, IfSome, lt-ltb, le-leb, leb-true, and_from, and_parts, cond-false, not-true, reverse-reverse, list_all, Whole, ReadingsAgree, ShortListenerIsReadBack}
+use Rattle.radio_relay.proofs.Words.{about_headers, read_back, shown_header, interval_header, listener_parts, ShowsResponse, bare, block_texts, texts_in, title_of, HasNoUrlInside, new_unweaving, atoms_of_piece, BadHead}
+use Rattle.radio_relay.proofs.Words.{header_interval, interval_in, interval_of, max_interval, Pulled, answer_pulled, sound_of_parts, titles_in, titles_of_texts, AreRelayable, RelaysLoseNothing}
 use Rattle.std.proofs.lemmas.Bool.Decides.{nat_tests}
 use Rattle.std.proofs.lemmas.Fmt.{decimal_is_IsNumeral, decimal_by_steps}
-use Rattle.std.proofs.lemmas.List.{reverse-reverse}
 use Rattle.std.proofs.lemmas.List.Elements.{All-cons, All-nil, All-head, All-push, All-weaker}
 use Rattle.std.proofs.Math.Seq.{drop-append_seam}
 use Rattle.std.specs.Char.{is_digit, is_ascii_digit}
-use Rattle.std.specs.List.{list_all}
 use Rattle.std.specs.Str.Parse.{AllDigits, digits_value}
 use Rattle.httparse.specs.Grammar.{AllPass, is_ows, skip_ows, trim_ows}
 use Rattle.httparse.proofs.TrimLemmas.{AllPass-reverse}
 use Rattle.radio_heads.specs.declared.answer.AboutHeaders.{AboutHeaders}
 use Rattle.radio_heads.specs.declared.answer.Welcome.{Welcome}
-use Rattle.radio_heads.specs.declared.outcome.Progress.TheVariants.{Whole}
 use Rattle.radio_heads.specs.Answer.{listener_text}
 use Rattle.radio_heads.specs.Headers.{value_of}
-use Rattle.radio_heads.specs.Laws.{ReadingsAgree, ShortListenerIsReadBack, about_headers, read_back, shown_header, interval_header, listener_parts}
-use Rattle.radio_heads.specs.Response.{ShowsResponse}
-use Rattle.radio_icy.specs.Bare.{bare, block_texts, sound_in as sound_heard, texts_in}
+use Rattle.radio_icy.specs.Bare.{sound_in as sound_heard}
 use Rattle.radio_icy.specs.Block.{title_text}
 use Rattle.radio_icy.specs.Stream.{IsWoven, sound_of_calls, interval_count, titles_sent}
-use Rattle.radio_icy.specs.Titles.{title_of, HasNoUrlInside}
-use Rattle.radio_icy.specs.Unweaving.{new_unweaving, atoms_of_piece}
 use Rattle.radio_icy.specs.Weaving.{Call}
 use Rattle.radio_texts.specs.Numbers.{number_of}
-use Rattle.radio_relay.specs.declared.fault.PullFault.TheVariants.{BadHead}
-use Rattle.radio_relay.specs.Answer.{header_interval, interval_in, interval_of, max_interval}
-use Rattle.radio_relay.specs.Pulled.{Pulled, answer_pulled}
-use Rattle.radio_relay.specs.Laws.{sound_of_parts, titles_in, titles_of_texts, AreRelayable, RelaysLoseNothing}
 use Rattle.radio_relay.proofs.BareLemmas.{woven_is_bare}
 use Rattle.radio_relay.proofs.CutLemmas.{readings-alike}
 

@@ -1,11 +1,8 @@
 -- Names of mounts as paths.
 use Rattle.std.proofs.Common.{◌≡◌, ℕ, zero, suc, ◌<◌, ◌≤◌, Bool, true, false, not, List, [], ◌∷◌, ◌++◌, if◌then◌else◌, ap, sym, ◌∙◌, refl, arith, ⊎_elim}
 use Rattle.std.proofs.Common.{eqb, leb, ltb}
-use Rattle.std.proofs.lemmas.Bool.{cases_lt, false≢true, lt-ltb, le-ltb, le-leb, lt-leb, ne_eqb}
-use Rattle.std.specs.List.{flat_map}
-use Rattle.percent_encoding.specs.declared.ascii_set.AsciiSet.{AsciiSet}
+use Rattle.radio_relay.proofs.Words.{cases_lt, false≢true, lt-ltb, le-ltb, le-leb, lt-leb, ne_eqb, flat_map, AsciiSet, percent_encode_byte, encode_byte, percent_encode}
 use Rattle.percent_encoding.specs.AsciiSet.{contains, should_percent_encode}
-use Rattle.percent_encoding.specs.Percent.{percent_encode_byte, encode_byte, percent_encode}
 use Rattle.radio_relay.specs.Request.{is_path_byte, path_byte, path_text}
 
 -- every number below n passes

@@ -1,7 +1,7 @@
 -- A reader's known bytes begin with what it holds in its buffer.
 use Rattle.std.proofs.Common.{◌≡◌, ℕ, Bool, true, false, List, [], ◌∷◌, ◌++◌, Option, None, Some, if◌then◌else◌, length, subst, sym, refl, arith}
 use Rattle.std.specs.Io.BufRead.{DropsConsumable}
-use Rattle.std.specs.Io.KnownBytes.{Consumes, prepend_known}
+use Rattle.radio_script.proofs.Words.{Consumes, prepend_known}
 
 -- the bytes that are known, if the buffer has room at all
 abbrev pub known_bytes : Bool → List ℕ → Option (List ℕ) → Option (List ℕ)

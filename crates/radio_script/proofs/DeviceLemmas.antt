@@ -1,6 +1,6 @@
 -- Texts without a line feed.
 use Rattle.std.proofs.Common.{◌≡◌, ℕ, ◌==◌, ◌||◌, Bool, true, false, List, [], ◌∷◌, ◌++◌, refl}
-use Rattle.radio_script.specs.Feeds.{has_feed}
+use Rattle.radio_script.proofs.Words.{has_feed}
 
 pub or_false : (a b : Bool) → (a || b) ≡ false → (a ≡ false) × (b ≡ false)
 or_false true b e = cc

@@ -1,14 +1,9 @@
 -- Escaped bytes are read back.
 use Rattle.std.proofs.Common.{◌≡◌, ℕ, ◌+◌, ◌*◌, ◌/◌, ◌%◌, ◌<◌, Bool, true, false, nat_lt, ◌==◌, List, [], ◌∷◌, ◌++◌, Option, Some, None, refl, ap, ◌∙◌, subst}
 use Rattle.std.proofs.Common.{arith, append_assoc, add-one, drop-cons, drop, get_or, length, suc}
-use Rattle.std.specs.List.{flat_map, AllByRecursion}
-use Rattle.std.specs.Option.{option_map, option_to_list, MatchOption}
-use Rattle.std.specs.Char.{digit_char}
-use Rattle.std.proofs.lemmas.Bool.Decides.{nat_tests}
+use Rattle.radio_script.proofs.Words.{flat_map, AllByRecursion, option_map, option_to_list, MatchOption, digit_char, nat_tests, Between, Escape, High, Low, EscapePlace, is_unescaped, escape_of, escaped, hex_value_of}
+use Rattle.radio_script.proofs.Words.{step_at, unescaped_from, unescaped}
 use Rattle.std.proofs.lemmas.Str.{digit_value-digit_char}
-use Rattle.radio_script.specs.declared.escapes.EscapePlace.TheVariants.{Between, Escape, High, Low}
-use Rattle.radio_script.specs.declared.escapes.EscapePlace.{EscapePlace}
-use Rattle.radio_script.specs.Escapes.{is_unescaped, escape_of, escaped, hex_value_of, step_at, unescaped_from, unescaped}
 
 -- The text is read as this byte, and then the rest.
 abbrev pub ReadsAs : List ℕ → ℕ → List ℕ → Type 0

@@ -1,11 +1,9 @@
 -- Lines and their line feeds.
 use Rattle.std.proofs.Common.{◌≡◌, ℕ, ◌<◌, ◌==◌, Bool, true, false, cond, List, [], ◌∷◌, ◌++◌, length, refl, sym, subst, ap, ◌∙◌, arith}
 use Rattle.std.specs.Bool.{OnTrue}
-use Rattle.radio_script.specs.Feeds.{has_feed}
+use Rattle.radio_script.proofs.Words.{has_feed, script_lines, IsLines, IsOneLine}
 use Rattle.radio_script.proofs.DeviceLemmas.{or_false}
-use Rattle.radio_script.specs.Script.{script_lines}
 use Rattle.radio_texts.specs.Cuts.{onto_first}
-use Rattle.radio_script.specs.Plays.{IsLines, IsOneLine}
 
 OnTrue-no : (b : Bool) (P : Type 0) → b ≡ false → OnTrue b P
 OnTrue-no true P e = cc

@@ -1,11 +1,6 @@
 -- Laws of transcripts.
 use Rattle.std.proofs.Common.{◌≡◌, ℕ, ◌+◌, inl, inr, List, [], ◌∷◌, ◌++◌, Option, None, Some, Result, Ok, Err, refl, sym, ap, ◌∙◌, subst}
-use Rattle.std.specs.Io.{StartsWith}
-use Rattle.radio_script.specs.declared.delivery.Delivery.{Delivery}
-use Rattle.radio_script.specs.declared.faults.PlayFault.{PlayFault}
-use Rattle.radio_script.specs.Script.{script_lines, meaning_of, deliveries_from, fault_or, fault_from}
-use Rattle.radio_script.specs.Runs.{Conduct, Runs}
-use Rattle.radio_script.specs.Transcripts.{run_fault}
+use Rattle.radio_script.proofs.Words.{StartsWith, Delivery, PlayFault, script_lines, meaning_of, deliveries_from, fault_or, fault_from, Conduct, Runs, run_fault}
 use Rattle.radio_script.specs.Laws.{IsDetermined, HasOneTranscript, GoesOnAsItBegan}
 use Rattle.radio_script.proofs.FeedLemmas.{script_lines-append}
 

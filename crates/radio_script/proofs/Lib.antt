@@ -10,3 +10,4 @@ mod ScriptPlays
 mod RunLemmas
 pub mod LawLemmas
 pub mod SimulationLemmas
+mod Words

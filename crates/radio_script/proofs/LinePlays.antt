@@ -1,21 +1,10 @@
 -- The playing of one line.
 use Rattle.std.proofs.Common.{◌≡◌, ℕ, ◌+◌, ◌≤◌, ◌<◌, Bool, false, true, nat_lt, ◌||◌, List, [], ◌∷◌, ◌++◌, length, Option, None, Some, Ok, Err, refl, sym, ap, ◌∙◌}
 use Rattle.std.proofs.Common.{subst, arith, append-nil, append_assoc, length-append, take}
-use Rattle.std.proofs.lemmas.Bool.Decides.{nat_tests}
-use Rattle.std.proofs.lemmas.List.{length-take, take_min}
-use Rattle.std.specs.Io.{StartsWith}
-use Rattle.std.specs.Io.KnownBytes.{Appends, Consumes, IsAtEnd}
-use Rattle.std.proofs.KnownBytes.{Appends-nil}
-use Rattle.radio_script.specs.Limits.{max_line, max_lines}
-use Rattle.radio_script.specs.declared.faults.PlayFault.{PlayFault}
-use Rattle.radio_script.specs.declared.faults.PlayFault.TheVariants.{Read, Write, Line, TooMuch, OutOfMemory}
+use Rattle.radio_script.proofs.Words.{nat_tests, length-take, take_min, StartsWith, Appends, Consumes, IsAtEnd, Appends-nil, max_line, max_lines, PlayFault, Read, Write, Line, TooMuch, OutOfMemory, has_feed}
+use Rattle.radio_script.proofs.Words.{script_lines, Conduct, IfKnown, Writes, IsPlayed, IsPlayedBefore, Plays, YieldsText, IsAtFault, AnswersLine, PlaysLine, IsLineResult}
 use Rattle.radio_script.specs.declared.reading.LineRead.TheVariants.{Whole, Last, Nothing, TooLong}
-use Rattle.radio_script.specs.Feeds.{has_feed}
 use Rattle.radio_script.specs.Reading.{ReadsLine}
-use Rattle.radio_script.specs.Script.{script_lines}
-use Rattle.radio_script.specs.Runs.{Conduct}
-use Rattle.radio_script.specs.Plays.{IfKnown, Writes, IsPlayed, IsPlayedBefore, Plays}
-use Rattle.radio_script.specs.Answers.{YieldsText, IsAtFault, AnswersLine, PlaysLine, IsLineResult}
 use Rattle.radio_script.proofs.FeedLemmas.{script_lines-line, script_lines-last, script_lines-long, IsOneLine-no_feed, IsOneLine-push}
 use Rattle.radio_script.proofs.TranscriptLemmas.{no_lines, answered_last, at_fault, too_much}
 

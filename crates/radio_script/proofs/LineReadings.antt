@@ -2,16 +2,9 @@
 use Rattle.std.proofs.Common.{◌≡◌, ◌≢◌, ℕ, ◌+◌, ◌/◌, ◌%◌, ◌^◌, ◌<◌, ◌≤◌, Bool, true, false, cond, nat_lt, ◌==◌, List, [], ◌∷◌, ◌++◌, Option, Some, None, refl}
 use Rattle.std.proofs.Common.{sym, ap, ◌∙◌, subst, arith, append_assoc}
 use Rattle.std.specs.Prelude.{if◌then◌else◌}
-use Rattle.std.specs.List.{flat_map, AllByRecursion}
-use Rattle.std.specs.Option.{option_map}
-use Rattle.std.specs.Char.{digit_char, digit_value}
+use Rattle.radio_script.proofs.Words.{flat_map, AllByRecursion, option_map, digit_char, digit_value, AllDigits, nat_tests, Between, is_unescaped, escape_of, escaped, hex_value_of, unescaped_from, unescaped, has_feed}
 use Rattle.std.specs.Fmt.{decimal}
-use Rattle.std.specs.Str.Parse.{AllDigits}
-use Rattle.std.proofs.lemmas.Bool.Decides.{nat_tests}
 use Rattle.std.proofs.lemmas.Fmt.{decimal_injective, decimal_is_IsNumeral}
-use Rattle.radio_script.specs.declared.escapes.EscapePlace.TheVariants.{Between}
-use Rattle.radio_script.specs.Escapes.{is_unescaped, escape_of, escaped, hex_value_of, unescaped_from, unescaped}
-use Rattle.radio_script.specs.Feeds.{has_feed}
 use Rattle.radio_script.specs.TranscriptLines.{out_line, shut_line}
 use Rattle.radio_script.specs.Given.{TranscriptLine, out, shut, line_text, transcript_text, IsLine, AreLines}
 use Rattle.radio_script.proofs.DeviceLemmas.{or_false}

@@ -1,7 +1,6 @@
 -- How a run goes on, delivery after delivery.
 use Rattle.std.proofs.Common.{ℕ, ◌+◌, inl, inr, List, [], ◌∷◌, ◌++◌, Option, None, Some, refl, sym, subst, append-nil, append_assoc}
-use Rattle.radio_script.specs.declared.delivery.Delivery.{Delivery}
-use Rattle.radio_script.specs.Runs.{Conduct, Runs}
+use Rattle.radio_script.proofs.Words.{Delivery, Conduct, Runs}
 
 -- After the text so far, what the remaining deliveries yield from the performer new is what all deliveries yield from old.
 abbrev pub RunsOn : {P : Type 0} → Conduct P → P → List Delivery → P → ℕ → List Delivery → List ℕ → Type 0

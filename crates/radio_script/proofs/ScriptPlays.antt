@@ -1,16 +1,8 @@
 -- How the playing of a script goes on, line after line.
 use Rattle.std.proofs.Common.{◌≡◌, ◌≢◌, ℕ, ◌+◌, ◌≤◌, ◌<◌, Bool, true, List, [], ◌∷◌, ◌++◌, length, Option, None, Some, Result, Ok, Err, refl, sym, ap, ◌∙◌}
 use Rattle.std.proofs.Common.{subst, arith, append_assoc, length-append, nat_lt, ◌||◌}
-use Rattle.std.proofs.lemmas.Bool.Decides.{nat_tests}
-use Rattle.std.proofs.KnownBytes.{Appends-trans}
-use Rattle.radio_script.specs.Limits.{max_line, max_lines}
-use Rattle.radio_script.specs.declared.faults.PlayFault.{PlayFault}
-use Rattle.radio_script.specs.declared.faults.PlayFault.TheVariants.{Read, Write, Line, TooMuch, OutOfMemory}
-use Rattle.radio_script.specs.Script.{script_lines}
-use Rattle.radio_script.specs.Runs.{Conduct}
-use Rattle.radio_script.specs.Transcripts.{IsTranscript}
-use Rattle.radio_script.specs.Plays.{EndsThere, IfKnown, Writes, IsLines, IsPlayed, IsPlayedBefore, IsCutOff, Plays}
-use Rattle.radio_script.specs.Answers.{IsLinePlayed, PlaysLine}
+use Rattle.radio_script.proofs.Words.{nat_tests, Appends-trans, max_line, max_lines, PlayFault, Read, Write, Line, TooMuch, OutOfMemory, script_lines, Conduct, IsTranscript, EndsThere, IfKnown, Writes, IsLines, IsPlayed}
+use Rattle.radio_script.proofs.Words.{IsPlayedBefore, IsCutOff, Plays, IsLinePlayed, PlaysLine}
 use Rattle.radio_script.proofs.FeedLemmas.{script_lines-line, script_lines-cons, IsLines-push, IsLines-append}
 use Rattle.radio_script.proofs.TranscriptLemmas.{no_lines, answered, too_much}
 use Rattle.radio_script.proofs.LinePlays.{writes_nothing, before_all}

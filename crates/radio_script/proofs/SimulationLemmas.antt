@@ -1,12 +1,6 @@
 -- A run of one performer is a run of another that does the same.
 use Rattle.std.proofs.Common.{ℕ, ◌+◌, List, [], ◌∷◌, ◌++◌, Option, None, Some, Result, Ok, Err, inl, inr, refl, sym, subst}
-use Rattle.radio_script.specs.declared.delivery.Delivery.{Delivery}
-use Rattle.radio_script.specs.declared.faults.PlayFault.{PlayFault}
-use Rattle.radio_script.specs.declared.faults.PlayFault.TheVariants.{Read, Write, Line, TooMuch, OutOfMemory}
-use Rattle.radio_script.specs.Script.{script_lines, deliveries_from}
-use Rattle.radio_script.specs.Runs.{Conduct, Runs}
-use Rattle.radio_script.specs.Transcripts.{IsTranscript}
-use Rattle.radio_script.specs.Plays.{Plays, IsPlayed, IsPlayedBefore}
+use Rattle.radio_script.proofs.Words.{Delivery, PlayFault, Read, Write, Line, TooMuch, OutOfMemory, script_lines, deliveries_from, Conduct, Runs, IsTranscript, Plays, IsPlayed, IsPlayedBefore}
 
 module _ {P Q : Type 0} (C : Conduct P) (D : Conduct Q) (Same : P → Q → Type 0)
     (does : (p p' : P) (q : Q) (delivery : Delivery) (lines : Option (List ℕ)) → Same p q → C p delivery lines p' → (q' : Q) × Same p' q'

@@ -1,12 +1,8 @@
 -- Texts are read as the grammar says.
 use Rattle.std.proofs.Common.{◌≡◌, ◌↔◌, ℕ, zero, suc, ◌+◌, ◌*◌, ◌≤◌, ◌⊎◌, ◌==◌, inl, inr, Bool, true, false, cond, List, [], ◌∷◌, ◌++◌, length, Option, None}
 use Rattle.std.proofs.Common.{Some, refl, ap, ◌∙◌, subst, arith}
-use Rattle.std.specs.Option.{option_map, option_to_list}
-use Rattle.std.proofs.lemmas.Bool.Decides.{nat_tests}
-use Rattle.radio_script.specs.declared.escapes.EscapePlace.{EscapePlace}
-use Rattle.radio_script.specs.declared.escapes.EscapePlace.TheVariants.{Between, Escape, High, Low}
+use Rattle.radio_script.proofs.Words.{option_map, option_to_list, nat_tests, EscapePlace, Between, Escape, High, Low, is_unescaped, hex_value_of, step_at, unescaped_from, unescaped}
 use Rattle.radio_script.specs.Steps.{◌>>=◌}
-use Rattle.radio_script.specs.Escapes.{is_unescaped, hex_value_of, step_at, unescaped_from, unescaped}
 use Rattle.radio_script.specs.Spelling.{Spells, as_itself, as_return, as_feed, as_backslash, as_digits, SpellsAll, none, more}
 use Rattle.radio_script.proofs.EscapeLemmas.{ReadsAs, read_named, read_plain, three_more}
 

@@ -1,12 +1,6 @@
 -- Transcripts, line by line.
 use Rattle.std.proofs.Common.{◌≡◌, ℕ, ◌+◌, inl, inr, true, nat_lt, ◌||◌, List, [], ◌∷◌, ◌++◌, length, Option, None, Some, Err, refl, sym, ap, subst, append-nil}
-use Rattle.radio_script.specs.Limits.{max_line, max_lines}
-use Rattle.radio_script.specs.declared.faults.PlayFault.{PlayFault}
-use Rattle.radio_script.specs.declared.faults.PlayFault.TheVariants.{TooMuch}
-use Rattle.radio_script.specs.Script.{meaning_of, onto_delivery, deliveries_from, fault_or, fault_from}
-use Rattle.radio_script.specs.Runs.{Conduct, Runs}
-use Rattle.radio_script.specs.Transcripts.{run_fault, IsTranscript}
-use Rattle.radio_script.specs.Answers.{YieldsText, IsAtFault}
+use Rattle.radio_script.proofs.Words.{max_line, max_lines, PlayFault, TooMuch, meaning_of, onto_delivery, deliveries_from, fault_or, fault_from, Conduct, Runs, run_fault, IsTranscript, YieldsText, IsAtFault}
 
 -- no lines yield no text
 pub no_lines : {P : Type 0} (performs : Conduct P) (p : P) (number : ℕ) → IsTranscript performs p number [] [] None p

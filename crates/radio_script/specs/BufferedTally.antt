@@ -8,9 +8,9 @@ abbrev pub bytes_left : {R : Type 0} → (R → Option (List ℕ)) → BufferedT
 bytes_left remaining tally = reader_remaining remaining tally.reader
 
 -- how often it was called to read
-abbrev pub calls_of : {R : Type 0} → BufferedTally R → ℕ
-calls_of tally = tally.calls
+abbrev pub buffered_calls : {R : Type 0} → BufferedTally R → ℕ
+buffered_calls tally = tally.calls
 
 -- how often it failed
-abbrev pub failures_of : {R : Type 0} → BufferedTally R → ℕ
-failures_of tally = tally.failures
+abbrev pub buffered_failures : {R : Type 0} → BufferedTally R → ℕ
+buffered_failures tally = tally.failures

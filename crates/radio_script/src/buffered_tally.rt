@@ -21,13 +21,13 @@ pub struct BufferedTally<R> {
 }
 
 impl<R: Read + Drop> BufferedTally<R> {
-    ghost use Rattle.radio_script.specs.BufferedTally.{bytes_left, calls_of, failures_of};
+    ghost use Rattle.radio_script.specs.BufferedTally.{bytes_left, buffered_calls, buffered_failures};
 
     /// Returns the tally of a reader, without calls and failures. It fails only if memory was refused.
     pub fn new(alloc: Global, reader: R) -> io::Result<BufferedTally<R>>
         ensures bytes { IfOk result (λ tally. bytes_left R.remaining tally ≡ R.remaining reader) }
-        ensures calls { IfOk result (λ tally. calls_of tally ≡ 0) }
-        ensures failures { IfOk result (λ tally. failures_of tally ≡ 0) }
+        ensures calls { IfOk result (λ tally. buffered_calls tally ≡ 0) }
+        ensures failures { IfOk result (λ tally. buffered_failures tally ≡ 0) }
     {
         Ok(BufferedTally {
             reader: BufReader::new(alloc, reader)?,
@@ -38,11 +38,11 @@ impl<R: Read + Drop> BufferedTally<R> {
 }
 
 impl<R> Counted for BufferedTally<R> {
-    ghost use Rattle.radio_script.specs.BufferedTally.{calls_of, failures_of};
+    ghost use Rattle.radio_script.specs.BufferedTally.{buffered_calls, buffered_failures};
 
-    ghost calls = { calls_of };
+    ghost calls = { buffered_calls };
 
-    ghost failures = { failures_of };
+    ghost failures = { buffered_failures };
 
     fn failure_count(&self) -> u64 {
         self.failures
@@ -54,7 +54,7 @@ impl<R> Counted for BufferedTally<R> {
 }
 
 impl<R: Read> Read for BufferedTally<R> {
-    ghost use Rattle.radio_script.specs.BufferedTally.{bytes_left, calls_of, failures_of};
+    ghost use Rattle.radio_script.specs.BufferedTally.{bytes_left, buffered_calls, buffered_failures};
 
     ghost remaining = { bytes_left R.remaining };
 
@@ -62,9 +62,9 @@ impl<R: Read> Read for BufferedTally<R> {
     fn read(&mut self, buffer: &mut [u8]) -> io::Result<usize>
         ensures bound { ReadsAtMost result buffer.new }
         ensures bytes { ReadConsumes (bytes_left R.remaining self.old) (bytes_left R.remaining self.new) result buffer.new }
-        ensures called { calls_of self.new ≡ bumped (calls_of self.old) }
-        ensures ok { OnOk result (failures_of self.new ≡ failures_of self.old) }
-        ensures err { OnErr result (failures_of self.new ≡ bumped (failures_of self.old)) }
+        ensures called { buffered_calls self.new ≡ bumped (buffered_calls self.old) }
+        ensures ok { OnOk result (buffered_failures self.new ≡ buffered_failures self.old) }
+        ensures err { OnErr result (buffered_failures self.new ≡ bumped (buffered_failures self.old)) }
     {
         self.read_counted(buffer)
     }

@@ -1,18 +1,7 @@
 -- rows whose listeners hear a session that has begun at their mount
 use Rattle.std.proofs.Common.{◌≡◌, false, ℕ, ◌==◌, List, [], ◌∷◌, refl, ap, sym, arith}
-use Rattle.std.specs.Prelude.{map, if◌then◌else◌}
-use Rattle.std.specs.Str.{bytes_eq}
-use Rattle.radio_seats_rows.specs.declared.mounts.Mount.{Mount}
-use Rattle.radio_seats_rows.specs.declared.row.ListenerRow.{ListenerRow}
-use Rattle.radio_seats_rows.specs.declared.row.RowState.{RowState}
-use Rattle.radio_seats_rows.specs.declared.row.RowState.TheVariants.{Seated, Ended}
-use Rattle.radio_seats_rows.specs.declared.seat.Seating.{Seating}
-use Rattle.radio_seats_rows.specs.declared.seat.Seating.TheVariants.{Sits}
-use Rattle.radio_seats_rows.specs.Guests.{seat_of_guest}
-use Rattle.radio_seats_rows.specs.Rows.{hears, last_number, with_state}
-use Rattle.radio_seats.specs.Shown.{named, named_state, state_at, sits_by, names_by, AreCounted}
-use Rattle.radio_seats_rows.specs.Seats.{hears_session, in_session_at, with_session_at}
-use Rattle.radio_seats_rows.proofs.Lists.{passing_same, map_both}
+use Rattle.radio_seats.proofs.Words.{map, if◌then◌else◌, bytes_eq, Mount, ListenerRow, RowState, Seated, Ended, Seating, Sits, seat_of_guest, hears, last_number, with_state, named, named_state, state_at, sits_by}
+use Rattle.radio_seats.proofs.Words.{names_by, AreCounted, hears_session, in_session_at, with_session_at, passing_same, map_both}
 
 abbrev pub hearing : ℕ → ℕ → ListenerRow → ListenerRow
 hearing number session row = with_state (hears number session row.state) row

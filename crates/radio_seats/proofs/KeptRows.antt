@@ -1,15 +1,7 @@
 -- what is done to a row leaves its listener's user as it is, so the index of users stays that of the rows
 use Rattle.std.proofs.Common.{ℕ, Bool, true, false, List, refl}
-use Rattle.std.specs.Prelude.{if◌then◌else◌, map}
-use Rattle.radio_policy.specs.declared.rule.Rule.{Rule}
-use Rattle.radio_tables.specs.Lists.{update_first}
-use Rattle.radio_seats_rows.specs.declared.row.ListenerRow.{ListenerRow}
-use Rattle.radio_seats_rows.specs.declared.row.RowState.{RowState}
-use Rattle.radio_seats_rows.specs.declared.row.RowState.TheVariants.{Seated, Ended}
-use Rattle.radio_seats_rows.specs.declared.seat.Guest.{Guest}
-use Rattle.radio_seats_rows.specs.Rows.{is_row, hears, shifted, ended, holds_at, ended_where, with_state}
-use Rattle.radio_seats.specs.Further.{heard_to_place}
-use Rattle.radio_seats.specs.Users.{UserTree, IsUserOf, AreKept}
+use Rattle.radio_seats.proofs.Words.{if◌then◌else◌, map, Rule, update_first, ListenerRow, RowState, Seated, Ended, Guest, is_row, hears, shifted, ended, holds_at, ended_where, with_state, heard_to_place, UserTree}
+use Rattle.radio_seats.proofs.Words.{IsUserOf, AreKept}
 use Rattle.radio_seats.proofs.UserLemmas.{IsSameUser, kept_updated, kept_mapped}
 
 heard_same : (place : ℕ) (row : ListenerRow) → IsSameUser row (with_state (heard_to_place place row.state) row)

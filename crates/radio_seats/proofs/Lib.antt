@@ -7,3 +7,4 @@ pub mod TestedRows
 pub mod GivenRows
 pub mod OtherLemmas
 pub mod ListedLemmas
+mod Words

@@ -1,12 +1,6 @@
 -- who sits at a mount, by the rows of the table
 use Rattle.std.proofs.Common.{◌≡◌, Bool, false, ℕ, ◌==◌, Option, Some, None, List, [], ◌∷◌, refl, ap, sym, ◌∙◌}
-use Rattle.std.specs.Prelude.{map, filter_map, if◌then◌else◌}
-use Rattle.std.specs.Str.{bytes_eq}
-use Rattle.radio_seats_rows.specs.declared.row.ListenerRow.{ListenerRow}
-use Rattle.radio_seats_rows.specs.declared.row.RowState.{RowState}
-use Rattle.radio_seats_rows.specs.declared.row.RowState.TheVariants.{Seated, Ended}
-use Rattle.radio_seats.specs.Listed.{ListedGuest, listed, guest_at, guests_at, guest_sitting, row_guest, row_sitting}
-use Rattle.radio_seats.specs.Shown.{named, named_state}
+use Rattle.radio_seats.proofs.Words.{map, filter_map, if◌then◌else◌, bytes_eq, ListenerRow, RowState, Seated, Ended, ListedGuest, listed, guest_at, guests_at, guest_sitting, row_guest, row_sitting, named, named_state}
 
 abbrev with_first : Option ListedGuest → List ListedGuest → List ListedGuest
 with_first None guests = guests

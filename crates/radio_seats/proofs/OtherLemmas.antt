@@ -1,19 +1,8 @@
 -- the listeners but for one of them, and the one who comes next
 use Rattle.std.proofs.Common.{◌≡◌, Bool, true, false, ℕ, ◌+◌, ◌-◌, ◌==◌, Option, Some, None, List, [], ◌∷◌, not, refl, ap, ◌∙◌, arith}
-use Rattle.std.specs.Prelude.{◌&&◌, find, map}
-use Rattle.std.specs.List.{list_any}
-use Rattle.std.specs.Option.{option_map, option_map_or}
-use Rattle.std.specs.Ordering.{nat_cmp}
-use Rattle.std.specs.Str.{bytes_eq}
+use Rattle.radio_seats.proofs.Words.{◌&&◌, find, map, list_any, option_map, option_map_or, nat_cmp, bytes_eq, ListenerRow, Listener, Seating, Sits, Finished, is_row, user_state, named, is_listener, listener_of}
+use Rattle.radio_seats.proofs.Words.{seat_held, seat_in, without_listener, is_seat_at, count_at, is_user_at, sits_there, sits_at, next_number, AreByNumber, one, held, passing_removed, map_any, map_found, any_filtered}
 use Rattle.radio_tables.specs.Past.{is_past}
-use Rattle.radio_seats_rows.specs.declared.row.ListenerRow.{ListenerRow}
-use Rattle.radio_seats_rows.specs.declared.seat.Listener.{Listener}
-use Rattle.radio_seats_rows.specs.declared.seat.Seating.{Seating}
-use Rattle.radio_seats_rows.specs.declared.seat.Seating.TheVariants.{Sits, Finished}
-use Rattle.radio_seats_rows.specs.Rows.{is_row, user_state}
-use Rattle.radio_seats.specs.Shown.{named}
-use Rattle.radio_seats_rows.specs.Seats.{is_listener, listener_of, seat_held, seat_in, without_listener, is_seat_at, count_at, is_user_at, sits_there, sits_at, next_number, AreByNumber}
-use Rattle.radio_seats_rows.proofs.Lists.{one, held, passing_removed, map_any, map_found, any_filtered}
 use Rattle.radio_seats.proofs.RowLemmas.{user_at, no_user}
 
 -- one sits at the mount exactly where it counts there

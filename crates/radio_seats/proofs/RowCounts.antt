@@ -1,25 +1,9 @@
 -- how the counts of mounts follow the rows: of those who sit there, and of those who sit there or sat there last
 use Rattle.std.proofs.Common.{◌≡◌, Bool, true, false, ℕ, ◌+◌, ◌-◌, ◌<◌, ◌≤◌, ◌==◌, Option, Some, None, List, [], ◌∷◌, length, not, refl, ap, sym, subst, ◌∙◌, arith}
-use Rattle.std.specs.Prelude.{◌&&◌, find, filter, map, if◌then◌else◌}
-use Rattle.std.specs.List.Sorted.{IsStrictlySortedBy}
-use Rattle.std.specs.Option.{option_map}
-use Rattle.std.specs.Ordering.{nat_cmp}
-use Rattle.std.specs.Str.{bytes_eq}
-use Rattle.std.proofs.lemmas.Bool.{eqb-true}
-use Rattle.radio_policy.specs.declared.rule.Rule.{Rule}
-use Rattle.radio_tables.specs.Lists.{update_first, placed}
-use Rattle.radio_seats_rows.specs.declared.mounts.Mount.{Mount}
-use Rattle.radio_seats_rows.specs.declared.row.ListenerRow.{ListenerRow}
-use Rattle.radio_seats_rows.specs.declared.row.NumberedSeat.{NumberedSeat}
-use Rattle.radio_seats_rows.specs.declared.row.RowState.{RowState}
-use Rattle.radio_seats_rows.specs.declared.row.RowState.TheVariants.{Seated, Ended}
-use Rattle.radio_seats_rows.specs.declared.seat.Guest.{Guest}
-use Rattle.radio_seats_rows.specs.declared.seat.Listener.{Listener}
-use Rattle.radio_seats_rows.specs.Mounts.{name_in, sitting_in, naming_in, one_at}
-use Rattle.radio_seats_rows.specs.Rows.{is_row, last_number, number_of, holds_at, ended_where, shifted, with_state}
-use Rattle.radio_seats.specs.Shown.{named, named_state, state_at, sits_by, names_by, last_in, number_in, AreCounted}
-use Rattle.radio_seats_rows.specs.Seats.{last_mount, named_at}
-use Rattle.radio_seats_rows.proofs.Lists.{same_number, passing, one, held, passing_more, passing_updated, passing_fits, found_counts, passing_mapped, passing_same, passing_placed, passing_removed}
+use Rattle.radio_seats.proofs.Words.{◌&&◌, find, filter, map, if◌then◌else◌, IsStrictlySortedBy, option_map, nat_cmp, bytes_eq, eqb-true, Rule, update_first, placed, Mount, ListenerRow, NumberedSeat, RowState, Seated}
+use Rattle.radio_seats.proofs.Words.{Ended, Guest, Listener, name_in, sitting_in, naming_in, one_at, is_row, last_number, number_of, holds_at, ended_where, shifted, with_state, named, named_state, state_at, sits_by}
+use Rattle.radio_seats.proofs.Words.{names_by, last_in, number_in, AreCounted, last_mount, named_at, same_number, passing, one, held, passing_more, passing_updated, passing_fits, found_counts, passing_mapped}
+use Rattle.radio_seats.proofs.Words.{passing_same, passing_placed, passing_removed}
 
 at_number : (b : Bool) → one b ≡ (if b then 1 else 0)
 at_number true = refl

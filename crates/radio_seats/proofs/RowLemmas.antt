@@ -1,35 +1,12 @@
 -- what rows show
 use Rattle.std.proofs.Common.{◌≡◌, Bool, true, false, ℕ, ◌+◌, ◌<◌, ◌==◌, Option, Some, None, List, [], ◌∷◌, length, not, refl, ap, sym, subst, ◌∙◌, arith}
-use Rattle.std.specs.Prelude.{◌&&◌, find, filter, map, if◌then◌else◌}
-use Rattle.std.specs.List.{list_any}
-use Rattle.std.specs.List.Sorted.{IsStrictlySortedBy}
-use Rattle.std.specs.Option.{option_map}
-use Rattle.std.specs.Ordering.{nat_cmp}
-use Rattle.std.specs.Str.{bytes_eq}
-use Rattle.std.proofs.lemmas.Bool.{eqb-true}
-use Rattle.std.proofs.lemmas.Slice.Eq.{bytes_eq-Decides}
-use Rattle.radio_policy.specs.declared.rule.Rule.{Rule}
-use Rattle.radio_tables.specs.Lists.{update_first, placed}
-use Rattle.radio_seats_rows.specs.declared.mounts.Mount.{Mount}
-use Rattle.radio_seats_rows.specs.declared.row.ListenerRow.{ListenerRow}
-use Rattle.radio_seats_rows.specs.declared.row.NumberedSeat.{NumberedSeat}
-use Rattle.radio_seats_rows.specs.declared.row.RowState.{RowState}
-use Rattle.radio_seats_rows.specs.declared.row.RowState.TheVariants.{Seated, Ended}
-use Rattle.radio_seats_rows.specs.declared.seat.Guest.{Guest}
-use Rattle.radio_seats_rows.specs.declared.seat.Listener.{Listener}
+use Rattle.radio_seats.proofs.Words.{◌&&◌, find, filter, map, if◌then◌else◌, list_any, IsStrictlySortedBy, option_map, nat_cmp, bytes_eq, eqb-true, bytes_eq-Decides, Rule, update_first, placed, Mount, ListenerRow}
+use Rattle.radio_seats.proofs.Words.{NumberedSeat, RowState, Seated, Ended, Guest, Listener, Seating, Sits, Finished, SeatTable, passes_in, passes_at, seat_of_guest, name_in, naming_in, how_many, is_row, last_number}
+use Rattle.radio_seats.proofs.Words.{holds_at, ended_where, user_state, seated_row, shifted, ended, with_state, heard_to_place, named, named_state, state_at, sits_by, names_by, AreCounted, is_listener, listener_of}
+use Rattle.radio_seats.proofs.Words.{by_listener, with_seat, advanced, with_place, heard_to, moved, with_move, lost_by, loses, with_end, without_listener, moved_to, AreByNumber, is_seat_at, count_at, last_mount}
+use Rattle.radio_seats.proofs.Words.{last_mount_of, named_at, holds_of, ended_if, finished_if, with_ended, has_user, is_user_at, sits_there, same_number, passing, one, passing_more, passing_mapped, none_changes}
+use Rattle.radio_seats.proofs.Words.{map_found, map_counted, map_both, map_any, map_placed, map_filtered, map_updated}
 use Rattle.radio_seats_rows.specs.declared.seat.Seat.{Seat}
-use Rattle.radio_seats_rows.specs.declared.seat.Seating.{Seating}
-use Rattle.radio_seats_rows.specs.declared.seat.Seating.TheVariants.{Sits, Finished}
-use Rattle.radio_seats_rows.specs.SeatTable.{SeatTable}
-use Rattle.radio_seats_rows.specs.Guests.{passes_in, passes_at, seat_of_guest}
-use Rattle.radio_seats_rows.specs.Mounts.{name_in, naming_in}
-use Rattle.radio_seats_rows.specs.Rests.{how_many}
-use Rattle.radio_seats_rows.specs.Rows.{is_row, last_number, holds_at, ended_where, user_state, seated_row, shifted, ended, with_state}
-use Rattle.radio_seats.specs.Further.{heard_to_place}
-use Rattle.radio_seats.specs.Shown.{named, named_state, state_at, sits_by, names_by, AreCounted}
-use Rattle.radio_seats_rows.specs.Seats.{is_listener, listener_of, by_listener, with_seat, advanced, with_place, heard_to, moved, with_move, lost_by, loses, with_end, without_listener, moved_to, AreByNumber, is_seat_at, count_at, last_mount, last_mount_of, named_at, holds_of, ended_if, finished_if, with_ended, has_user, is_user_at, sits_there}
-use Rattle.radio_seats_rows.proofs.Lists.{same_number, passing, one, passing_more, passing_mapped}
-use Rattle.radio_seats_rows.proofs.Lists.{none_changes, map_found, map_counted, map_both, map_any, map_placed, map_filtered, map_updated}
 
 -- where no row names a mount whose name has changed, all is shown as before
 module _ (name later : ℕ → List ℕ) where

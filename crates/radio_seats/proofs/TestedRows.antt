@@ -1,21 +1,7 @@
 -- of whom a test holds, and the first moment of those who have seats
 use Rattle.std.proofs.Common.{◌≡◌, Bool, true, ℕ, ◌<◌, ◌==◌, Some, None, List, [], ◌∷◌, refl, ap, ◌∙◌, arith}
-use Rattle.std.specs.Prelude.{min, fold, find, map}
-use Rattle.std.specs.Str.{bytes_eq}
-use Rattle.std.proofs.lemmas.Slice.Eq.{bytes_eq-Decides}
-use Rattle.radio_tables.proofs.FindLaws.{found_passes}
-use Rattle.radio_seats_rows.specs.declared.row.ListenerRow.{ListenerRow}
-use Rattle.radio_seats_rows.specs.declared.row.RowState.{RowState}
-use Rattle.radio_seats_rows.specs.declared.row.RowState.TheVariants.{Seated, Ended}
-use Rattle.radio_seats_rows.specs.declared.seat.Guest.{Guest}
-use Rattle.radio_seats_rows.specs.declared.seat.Listener.{Listener}
-use Rattle.radio_seats_rows.specs.Guests.{passes_in, passes_at, moment_in}
-use Rattle.radio_seats_rows.specs.Rests.{how_many}
-use Rattle.radio_seats_rows.specs.Rows.{number_of, holds_in, state_moment}
-use Rattle.radio_seats.specs.Shown.{named, named_state, state_at, sits_by}
-use Rattle.radio_seats_rows.specs.Seats.{holds_of}
-use Rattle.radio_seats_rows.proofs.Lists.{passing, found_counts}
-use Rattle.radio_seats_rows.proofs.Lists.{none_passes, map_counted, same_number}
+use Rattle.radio_seats.proofs.Words.{min, fold, find, map, bytes_eq, bytes_eq-Decides, found_passes, ListenerRow, RowState, Seated, Ended, Guest, Listener, passes_in, passes_at, moment_in, how_many, number_of, holds_in}
+use Rattle.radio_seats.proofs.Words.{state_moment, named, named_state, state_at, sits_by, holds_of, passing, found_counts, none_passes, map_counted, same_number}
 
 -- of whom the test holds
 module _ (p : Guest → Bool) (name : ℕ → List ℕ) (rows : List ListenerRow) where

@@ -1,32 +1,14 @@
 -- the index of the rows by user, after each change of the rows, and what is found by it
 use Rattle.std.proofs.Common.{◌≡◌, Bool, true, false, ℕ, ◌==◌, ◌||◌, Option, Some, None, List, [], ◌∷◌, inl, inr, not, refl, ap, sym, subst, ◌∙◌, arith}
-use Rattle.std.specs.Prelude.{◌&&◌, find, filter, map, if◌then◌else◌}
-use Rattle.std.specs.BTreeMap.{is_at}
-use Rattle.std.specs.BTreeSet.{BTreeSet}
-use Rattle.std.specs.Cmp.{both_ways}
-use Rattle.std.specs.List.{list_any, AllByRecursion}
-use Rattle.std.specs.List.Sorted.{IsStrictlySortedBy}
-use Rattle.std.specs.Option.{option_map}
-use Rattle.std.specs.Ordering.{nat_cmp}
+use Rattle.radio_seats.proofs.Words.{◌&&◌, find, filter, map, if◌then◌else◌, is_at, BTreeSet, both_ways, list_any, AllByRecursion, IsStrictlySortedBy, option_map, nat_cmp, eqb-true, nat_tests, bytes_eq-Decides}
+use Rattle.radio_seats.proofs.Words.{update_first, placed, Has, find_here, find_later, find_mapped, find_others, find_removed, found_has, ListenerRow, RowState, Seated, Ended, is_row, user_state, has_user, user_sent}
+use Rattle.radio_seats.proofs.Words.{is_user, UserTree, entry_of, has_number, numbers_in, is_kept, user_in, IsUserOf, HasItsUser, AreKept, is_own, is_other, is_other_in, same_number}
 use Rattle.std.specs.declared.cmp.Ordering.TheVariants.{Less}
-use Rattle.std.proofs.lemmas.Bool.{eqb-true}
-use Rattle.std.proofs.lemmas.Bool.Decides.{nat_tests}
 use Rattle.std.proofs.lemmas.Cmp.{nat_cmp_total}
 use Rattle.std.proofs.lemmas.Map.Keys.{sorted_head, sorted_tail}
-use Rattle.std.proofs.lemmas.Slice.Eq.{bytes_eq-Decides}
 use Rattle.radio_creds.specs.Credentials.{Credentials}
-use Rattle.radio_tables.specs.Lists.{update_first, placed, Has}
 use Rattle.radio_tables.proofs.EachLaws.{Each_kept, Each_mapped, Each_placed, Each_updated, Has_found}
-use Rattle.radio_tables.proofs.FindLaws.{find_here, find_later, find_mapped, find_others, find_removed, found_has}
 use Rattle.radio_tables.proofs.KeyLaws.{find_placed, number_is}
-use Rattle.radio_seats_rows.specs.declared.row.ListenerRow.{ListenerRow}
-use Rattle.radio_seats_rows.specs.declared.row.RowState.{RowState}
-use Rattle.radio_seats_rows.specs.declared.row.RowState.TheVariants.{Seated, Ended}
-use Rattle.radio_seats_rows.specs.Rows.{is_row, user_state}
-use Rattle.radio_seats_rows.specs.Seats.{has_user}
-use Rattle.radio_seats_rows.specs.Sent.{user_sent, is_user}
-use Rattle.radio_seats.specs.Users.{UserTree, entry_of, has_number, numbers_in, is_kept, user_in, IsUserOf, HasItsUser, AreKept, is_own, is_other, is_other_in}
-use Rattle.radio_seats_rows.proofs.Lists.{same_number}
 use Rattle.radio_seats.proofs.UserTrees.{is_same}
 
 and_right : (b c : Bool) → (b && c) ≡ true → c ≡ true

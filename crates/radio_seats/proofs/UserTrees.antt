@@ -1,21 +1,13 @@
 -- the tree of users, after a change at one user
 use Rattle.std.proofs.Common.{◌≡◌, Bool, true, false, ℕ, ◌==◌, ◌||◌, Option, List, [], ◌∷◌, length, not, refl, ap, sym, ◌∙◌, arith}
-use Rattle.std.specs.Prelude.{◌&&◌, cond}
-use Rattle.std.specs.BTreeMap.{UpdatesBy, is_at}
-use Rattle.std.specs.BTreeSet.{BTreeSet, contains}
+use Rattle.radio_seats.proofs.Words.{◌&&◌, cond, UpdatesBy, is_at, BTreeSet, contains, eq_by_cmp_equiv, list_any, nat_cmp, eq_by_cmp, is_eq, bytes_eq, nat_tests, bytes_eq-Decides, UserTree, by_bytes, entry_of}
+use Rattle.radio_seats.proofs.Words.{has_number, is_kept}
 use Rattle.std.specs.BTreeSet as sorted
-use Rattle.std.specs.Cmp.{eq_by_cmp_equiv}
 use Rattle.std.specs.Cmp.Lexicographic.{nat_list_cmp_total, nat_list_eq_equiv, slice_cmp}
 use Rattle.std.specs.Global.{Vec}
-use Rattle.std.specs.List.{list_any}
 use Rattle.std.specs.Map.{lookup, KeepsOthers, IsKeyTest, AreApart}
-use Rattle.std.specs.Ordering.{nat_cmp, eq_by_cmp, is_eq}
-use Rattle.std.specs.Str.{bytes_eq}
 use Rattle.std.specs.declared.cmp.Ordering.{Ordering}
-use Rattle.std.proofs.lemmas.Bool.Decides.{nat_tests}
 use Rattle.std.proofs.lemmas.Map.Text.{is_eq-slice_cmp}
-use Rattle.std.proofs.lemmas.Slice.Eq.{bytes_eq-Decides}
-use Rattle.radio_seats.specs.Users.{UserTree, by_bytes, entry_of, has_number, is_kept}
 
 -- the order of the keys
 abbrev pub by_key : Vec ℕ → Vec ℕ → Ordering

@@ -1,25 +1,14 @@
 -- Conversations that read alike, whatever was written in them.
 use Rattle.std.proofs.Common.{◌≡◌, ℕ, Bool, true, false, List, [], ◌∷◌, ◌++◌, Option, None, Some, Result, Ok, Err, drop, refl, sym, ap, subst, ◌∙◌}
-use Rattle.std.specs.Prelude.{codes, if◌then◌else◌}
+use Rattle.radio_stations.proofs.Words.{codes, if◌then◌else◌, Event, Leave, SourceEnd, Progress, More, Whole, HeadFault, RequestParts, ShowsRequest, IsReading, WebAnswers, Hears, Head, Body, Nothing, Conversation}
+use Rattle.radio_stations.proofs.Words.{EventReading, HearsAs, IsHeard, body_closes, body_heard, get_heard, greeted, head_heard, nothing_held, refuses, source_heard, body_delivered}
 use Rattle.std.specs.Str.{bytes_eq}
 use Rattle.radio_policy.specs.declared.rule.Rule.{Rule}
 use Rattle.radio_policy.specs.declared.rule.Rule.TheVariants.{BadHead, BadMethod}
-use Rattle.radio_events.specs.declared.event.Event.{Event}
-use Rattle.radio_events.specs.declared.event.Event.TheVariants.{Leave, SourceEnd}
-use Rattle.radio_heads.specs.declared.outcome.Progress.{Progress}
-use Rattle.radio_heads.specs.declared.outcome.Progress.TheVariants.{More, Whole}
-use Rattle.radio_heads.specs.declared.outcome.HeadFault.{HeadFault}
-use Rattle.radio_heads.specs.Head.{RequestParts, ShowsRequest}
-use Rattle.radio_heads.specs.Reading.{IsReading}
 use Rattle.radio_source.specs.Place.{Place, after, data_of, has_ended, fault_at}
-use Rattle.radio_answers.specs.declared.web_answers.WebAnswers.{WebAnswers}
-use Rattle.radio_session.specs.declared.session.Hears.{Hears}
-use Rattle.radio_session.specs.declared.session.Hears.TheVariants.{Head, Body, Nothing}
 use Rattle.radio_session.specs.declared.session.LastWord.{LastWord}
 use Rattle.radio_session.specs.Asking.{asks_to_feed, asks_by_get}
-use Rattle.radio_session.specs.Conversation.{Conversation}
 use Rattle.radio_session.specs.Framing.{is_source, framing_of, start_of}
-use Rattle.radio_session.specs.Hearing.{EventReading, HearsAs, IsHeard, body_closes, body_heard, get_heard, greeted, head_heard, nothing_held, refuses, source_heard, body_delivered}
 use Rattle.radio_session.specs.Pushes.{pushes}
 
 -- they have the same number, hold the same bytes, read on alike and have the same settings of answers

@@ -1,28 +1,11 @@
 -- What has happened on the course of a connection is what its bytes mean.
 use Rattle.std.proofs.Common.{◌≡◌, ◌⊎◌, inl, inr, ℕ, true, false, List, [], ◌∷◌, ◌++◌, refl, sym, ap, subst, ◌∙◌, append_assoc}
-use Rattle.std.proofs.lemmas.List.{append-nil, map-append}
-use Rattle.std.proofs.lemmas.List.Concat.{flat_map-append}
-use Rattle.radio_events.specs.declared.entry.Entry.{Entry}
-use Rattle.radio_events.specs.declared.event.Event.{Event}
-use Rattle.radio_events.specs.declared.event.Event.TheVariants.{Arrive, Draw, Leave}
-use Rattle.radio_events.specs.declared.reply.Reply.{Reply}
-use Rattle.radio_events.specs.declared.reply.Reply.TheVariants.{Arrived}
-use Rattle.radio_events.specs.declared.state.State.{State}
-use Rattle.radio_events.specs.declared.state.State.TheVariants.{Running, Shut}
-use Rattle.radio_events.specs.Events.{entry}
-use Rattle.radio_heads.specs.Head.{ShowsRequest}
-use Rattle.radio_heads.specs.Laws.{IsStableReading}
-use Rattle.radio_session.specs.Conversation.{fresh}
-use Rattle.radio_session.specs.Cuts.{Atom, PiecesAreHeardAsOne, atoms, event_atoms, unheard}
-use Rattle.radio_session.specs.Hearing.{EventReading, IsHeard}
-use Rattle.radio_session.specs.Saying.{said}
-use Rattle.radio_connections.specs.declared.conn.Fate.{Fate}
-use Rattle.radio_connections.specs.declared.conn.Fate.TheVariants.{Open, Ended, Closed, Cut}
-use Rattle.radio_connections.specs.Course.{Arrival, LetsNobodyIn, Standing, Course, IsOver, HasAllApplied, standing_after_reply, fate_by, pending_by, newcomer}
-use Rattle.radio_connections.specs.Course.{arrives, turned_away, hears, has_room, applies, closes, is_cut, passes_over, leaves}
+use Rattle.radio_stations.proofs.Words.{append-nil, map-append, flat_map-append, Entry, Event, Arrive, Draw, Leave, Reply, Arrived, State, Running, Shut, entry, ShowsRequest, IsStableReading, fresh, Atom}
+use Rattle.radio_stations.proofs.Words.{PiecesAreHeardAsOne, atoms, event_atoms, unheard, EventReading, IsHeard, said, Fate, Open, Ended, Closed, Cut, Arrival, LetsNobodyIn, Standing, Course, IsOver, HasAllApplied}
+use Rattle.radio_stations.proofs.Words.{standing_after_reply, fate_by, pending_by, newcomer, arrives, turned_away, hears, has_room, applies, closes, is_cut, passes_over, leaves, HasDrawsAmong, HasShut, IsHeardInOne}
+use Rattle.radio_stations.proofs.Words.{MeansItsBytes, nothing}
 use Rattle.radio_connections.specs.Duties.{IsAtMostLeaving, IsWritten, events_of}
 use Rattle.radio_headline.proofs.AppliedLemmas.{said_web}
-use Rattle.radio_stations.specs.Meaning.{HasDrawsAmong, HasShut, IsHeardInOne, MeansItsBytes, nothing}
 use Rattle.radio_stations.proofs.Alike.{IsAlike, alike_self}
 use Rattle.radio_stations.proofs.Joined.{IsTogether, heard_together}
 use Rattle.radio_stations.proofs.Weaving.{asked_then, drawn_then}

@@ -1,11 +1,7 @@
 -- Lists of connections that a worker holds, each under its label.
 use Rattle.std.proofs.Common.{◌≡◌, ℕ, zero, suc, ◌==◌, Bool, true, false, Option, None, Some, List, [], ◌∷◌, ◌++◌, refl, sym, ap, ◌∙◌}
-use Rattle.std.specs.Prelude.{filter, remove, slice_get, if◌then◌else◌}
-use Rattle.std.specs.List.{position}
-use Rattle.radio_connections.specs.Connections.{Connection, lingers, stays, without_at, without_first}
-use Rattle.radio_tables.proofs.KeyLaws.{by_number}
-use Rattle.radio_stations.specs.Work.{Roll, UnderLabel, enrolled, here, unknown}
-use Rattle.radio_stations.specs.Rounds.{AreHeld, Held, IsOther, connections}
+use Rattle.radio_stations.proofs.Words.{filter, remove, slice_get, if◌then◌else◌, position, Connection, lingers, stays, without_at, without_first, by_number, Roll, UnderLabel, enrolled, here, unknown, AreHeld, Held}
+use Rattle.radio_stations.proofs.Words.{IsOther, connections}
 use Rattle.radio_stations.proofs.WorkLemmas.{enrolled_elsewhere}
 
 pub apart_of : (label other : ℕ) → (other ≡ label → ⊥) → (label == other) ≡ false

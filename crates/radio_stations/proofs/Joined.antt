@@ -1,20 +1,7 @@
 -- Bytes that are read, and more bytes after them, are read as both in one piece.
 use Rattle.std.proofs.Common.{◌≡◌, inl, inr, ℕ, List, [], ◌∷◌, ◌++◌, Result, Ok, Err, refl, sym, ap, subst, ◌∙◌, append_assoc}
-use Rattle.std.proofs.lemmas.List.{append-nil}
-use Rattle.std.proofs.lemmas.List.Concat.{flat_map-append}
-use Rattle.radio_events.specs.declared.event.Event.{Event}
-use Rattle.radio_heads.specs.declared.outcome.Progress.{Progress}
-use Rattle.radio_heads.specs.declared.outcome.Progress.TheVariants.{More, Whole}
-use Rattle.radio_heads.specs.declared.outcome.HeadFault.{HeadFault}
-use Rattle.radio_heads.specs.Head.{RequestParts, ShowsRequest}
-use Rattle.radio_heads.specs.Laws.{IsStableReading}
-use Rattle.radio_heads.specs.Reading.{IsReading}
-use Rattle.radio_session.specs.declared.session.Hears.{Hears}
-use Rattle.radio_session.specs.declared.session.Hears.TheVariants.{Head, Body, Nothing}
-use Rattle.radio_session.specs.Conversation.{Conversation}
-use Rattle.radio_session.specs.Cuts.{IsHeardIn, PiecesAreHeardAsOne, atoms, event_atoms, heard_then, unheard}
-use Rattle.radio_session.specs.Hearing.{EventReading, HearsAs, IsHeard, body_heard, head_heard, nothing_held}
-use Rattle.radio_stations.specs.Meaning.{IsHeardInOne}
+use Rattle.radio_stations.proofs.Words.{append-nil, flat_map-append, Event, Progress, More, Whole, HeadFault, RequestParts, ShowsRequest, IsStableReading, IsReading, Hears, Head, Body, Nothing, Conversation, IsHeardIn}
+use Rattle.radio_stations.proofs.Words.{PiecesAreHeardAsOne, atoms, event_atoms, heard_then, unheard, EventReading, HearsAs, IsHeard, body_heard, head_heard, nothing_held, IsHeardInOne}
 use Rattle.radio_stations.proofs.Alike.{IsAlike, AreSo, alike_then, hears_so}
 
 -- both together have a reading

@@ -13,3 +13,4 @@ mod RelayLemmas
 mod StationLemmas
 mod SettledLemmas
 mod RunningLemmas
+mod Words

@@ -1,22 +1,12 @@
 -- The course of one pull of a relay, turn after turn.
 use Rattle.std.proofs.Common.{◌≡◌, ◌⊎◌, inl, inr, ℕ, Bool, true, false, List, [], ◌∷◌, ◌++◌, Option, None, Some, refl, sym, ap, subst, ◌∙◌}
-use Rattle.std.proofs.lemmas.List.{append-nil}
-use Rattle.radio_events.specs.declared.entry.Entry.{Entry}
-use Rattle.radio_events.specs.declared.event.Event.{Event}
-use Rattle.radio_events.specs.declared.event.Event.TheVariants.{RelayDown}
-use Rattle.radio_events.specs.declared.state.State.{State}
-use Rattle.radio_events.specs.declared.state.State.TheVariants.{Running, Shut}
-use Rattle.radio_events.specs.Events.{entry}
-use Rattle.radio_events.specs.Servers.{Chain, Steps}
-use Rattle.radio_connections.proofs.DeedChains.{chain_one, chain_then}
+use Rattle.radio_stations.proofs.Words.{append-nil, Entry, Event, RelayDown, State, Running, Shut, entry, Chain, Steps, chain_one, chain_then, AreAtMostOfTurn, AreOfTurn, IsGoingDown, PullCourse, PullSoFar, begins}
+use Rattle.radio_stations.proofs.Words.{goes_down, has_turn, is_refused, number_after, HasGoneOn, IsLetDown, IsNewPull, no_turn, one_turn, RelaySetting}
 use Rattle.radio_masters.specs.declared.mount_pull.PullTurn.{PullTurn}
 use Rattle.radio_masters.specs.declared.mount_pull.PullTurn.TheVariants.{Running as GoesOn, Shut as IsShut, Closed, Failed, OutOfMemory}
 use Rattle.radio_masters.specs.Pulls.{Comes, AppliesAll, IsPullTurn, PullOver}
-use Rattle.radio_relay.specs.Applied.{AreAtMostOfTurn, AreOfTurn, IsGoingDown, PullCourse, PullSoFar, begins, goes_down, has_turn, is_refused, number_after}
 use Rattle.radio_relay.specs.Course.{GoesDown}
 use Rattle.radio_relay.specs.Pulling.{Pulling, is_shut, pulling_begun}
-use Rattle.radio_pullers.specs.Threads.{HasGoneOn, IsLetDown, IsNewPull, no_turn, one_turn}
-use Rattle.radio_settings_values.specs.declared.settings.RelaySetting.{RelaySetting}
 use Rattle.radio_stations.specs.Relays.{HasItsCourse, PullsMeanTheirBytes}
 
 module _ {S : Type 0} (steps : Steps S) (mount : List ℕ) (from : S) where

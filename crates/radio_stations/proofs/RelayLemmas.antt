@@ -1,18 +1,10 @@
 -- What a relay's thread has done, as work over its pulls, under labels of a range of its own.
 use Rattle.std.proofs.Common.{◌≡◌, ℕ, suc, List, [], ◌∷◌, ◌++◌, inl, map, refl, sym, subst, arith}
-use Rattle.radio_answers.specs.declared.web_answers.WebAnswers.{WebAnswers}
-use Rattle.radio_events.specs.declared.entry.Entry.{Entry}
-use Rattle.radio_events.specs.declared.event.Event.{Event}
-use Rattle.radio_events.specs.declared.event.Event.TheVariants.{Arrive, Clock, Command, Draw, Leave, Listen, Push, RelayDown, RelayUp, Source, SourceEnd, Title}
-use Rattle.radio_events.specs.declared.reply.Reply.{Reply}
-use Rattle.radio_events.specs.declared.reply.Reply.TheVariants.{Arrived, Feeding as SaysFeeding, Seated, Drawn, Noted, Text, Deny, Finished, Stray}
-use Rattle.radio_events.specs.Servers.{Chain, Steps}
-use Rattle.radio_pullers.specs.Threads.{HasPulled, no_pull, one_pull}
+use Rattle.radio_stations.proofs.Words.{WebAnswers, Entry, Event, Arrive, Clock, Command, Draw, Leave, Listen, Push, RelayDown, RelayUp, Source, SourceEnd, Title, Reply, Arrived, Seated, Drawn, Noted, Text, Deny}
+use Rattle.radio_stations.proofs.Words.{Finished, Stray, Chain, Steps, HasPulled, no_pull, one_pull, WatchedOf, WatchedSteps, watched_of, RelaySetting, enrolled, made_on, nobody_came, nothing_yet, pulled, pulled_in}
+use Rattle.radio_events.specs.declared.reply.Reply.TheVariants.{Feeding as SaysFeeding}
 use Rattle.radio_serving.specs.Kinds.{FeedsAfter, event_kind}
 use Rattle.radio_serving.specs.Sources.{FeedingClients, with_source, without_source}
-use Rattle.radio_serving.specs.Watching.{WatchedOf, WatchedSteps, watched_of}
-use Rattle.radio_settings_values.specs.declared.settings.RelaySetting.{RelaySetting}
-use Rattle.radio_stations.specs.Work.{enrolled, made_on, nobody_came, nothing_yet, pulled, pulled_in}
 use Rattle.radio_stations.proofs.PullLemmas.{pulls_mean}
 use Rattle.radio_stations.proofs.ShiftLemmas.{SlotMade, labels_then, no_labels}
 

@@ -1,18 +1,7 @@
 -- A worker's admissions and turns, step by step.
 use Rattle.std.proofs.Common.{◌≡◌, inl, inr, ℕ, Bool, true, false, List, [], ◌∷◌, ◌++◌, refl, sym, ap, subst, ◌∙◌, append_assoc}
-use Rattle.std.specs.Prelude.{map, filter}
-use Rattle.std.proofs.lemmas.List.{append-nil, map-append}
-use Rattle.radio_answers.specs.declared.web_answers.WebAnswers.{WebAnswers}
-use Rattle.radio_events.specs.declared.event.Event.{Event}
-use Rattle.radio_events.specs.declared.event.Event.TheVariants.{Arrive}
-use Rattle.radio_events.specs.Events.{entry}
-use Rattle.radio_events.specs.Servers.{Steps}
-use Rattle.radio_connections.specs.Connections.{Connection, stays}
-use Rattle.radio_serving.specs.declared.turn.Turn.{Turn}
-use Rattle.radio_serving.specs.Turns.{IsTurn, ServesEach, TicksUnless, is_time_known}
-use Rattle.radio_serving.specs.Workers.{WorkerOf}
-use Rattle.radio_stations.specs.Work.{HasWorked, Made, Roll, here, made_on, moment, enrolled, served, told, took_in}
-use Rattle.radio_stations.specs.Rounds.{AdmissionsAreWork, AreHeld, Held, IsOther, TurnsAreWork, connections, held_at}
+use Rattle.radio_stations.proofs.Words.{map, filter, append-nil, map-append, WebAnswers, Event, Arrive, entry, Steps, Connection, stays, Turn, IsTurn, ServesEach, TicksUnless, is_time_known, WorkerOf, HasWorked, Made}
+use Rattle.radio_stations.proofs.Words.{Roll, here, made_on, moment, enrolled, served, told, took_in, AdmissionsAreWork, AreHeld, Held, IsOther, TurnsAreWork, connections, held_at}
 use Rattle.radio_stations.proofs.HeldLemmas.{apart_of, conns_stay, held_stay, held_then, other_stays, stay, still_held}
 use Rattle.radio_stations.proofs.WorkLemmas.{enrolled_elsewhere, enrolled_here}
 

@@ -1,17 +1,10 @@
 -- From the work at each slot, and that of each relay's thread, to workers with labels of their own.
 use Rattle.std.proofs.Common.{◌≡◌, ◌<◌, ◌≤◌, ◌⊎◌, ℕ, suc, true, false, Bool, inl, inr, Option, None, Some, List, [], ◌∷◌, ◌++◌, refl, sym, ap, subst, ◌∙◌, arith}
-use Rattle.std.specs.Prelude.{All, IfSome, length, nat_lt, slice_index_or, sum_by}
+use Rattle.radio_stations.proofs.Words.{All, IfSome, length, nat_lt, slice_index_or, sum_by, WebAnswers, World, ReceiptOf, IsCalled, MayBeRefused, IsWorkOf, HaveOwnLabels, SettledStationsHearSlices, WorkAtHall}
+use Rattle.radio_stations.proofs.Words.{joint_roll, passes_of, AreDisjoint, either_has, Roll, UnderLabel, unknown}
 use Rattle.std.proofs.lemmas.Bool.Decides.{nat_tests}
-use Rattle.radio_answers.specs.declared.web_answers.WebAnswers.{WebAnswers}
-use Rattle.radio_parts_station.specs.World.{World}
-use Rattle.radio_book.specs.Receipts.{ReceiptOf}
-use Rattle.radio_locks.specs.Callers.{IsCalled, MayBeRefused}
 use Rattle.radio_hall.specs.Settling.{IsSettled}
-use Rattle.radio_workers.specs.Working.{IsWorkOf}
 use Rattle.radio_stations.specs.Running.{RelayAtHall, RunningStationsHearSlices, relay_passes, slot_passes}
-use Rattle.radio_stations.specs.Settled.{HaveOwnLabels, SettledStationsHearSlices, WorkAtHall, joint_roll, passes_of}
-use Rattle.radio_stations.specs.Stations.{AreDisjoint, either_has}
-use Rattle.radio_stations.specs.Work.{Roll, UnderLabel, unknown}
 use Rattle.radio_stations.proofs.RelayLemmas.{relay_made}
 use Rattle.radio_stations.proofs.SettledLemmas.{both_then}
 use Rattle.radio_stations.proofs.ShiftLemmas.{SlotMade, slot_made}

@@ -1,14 +1,7 @@
 -- From settled passes to the connections of all workers.
 use Rattle.std.proofs.Common.{◌≡◌, List, [], ◌∷◌, ◌++◌, map, refl, sym, ap, subst, ◌∙◌}
-use Rattle.radio_answers.specs.declared.web_answers.WebAnswers.{WebAnswers}
-use Rattle.radio_events.specs.declared.entry.Entry.{Entry}
-use Rattle.radio_parts_station.specs.World.{World, opening}
-use Rattle.radio_book.specs.Receipts.{ReceiptOf}
-use Rattle.radio_chronicle.specs.History.{IsRun}
-use Rattle.radio_hall.specs.Woven.{AreWoven, IsInterleaved, SettledHistoriesAreWoven, entries_of, nothing_left, takes_one, takes_other}
-use Rattle.radio_stations.specs.Settled.{HaveOwnLabels, SettledStationsHearSlices, WorkAtHall, all_made, joint_roll, passes_of}
-use Rattle.radio_stations.specs.Stations.{StationsAddUp, StationsHearSlices}
-use Rattle.radio_stations.specs.Work.{IsOfConnections, Made, PassesAreOfTheirWork, made_entries, nobody_came}
+use Rattle.radio_stations.proofs.Words.{WebAnswers, Entry, World, opening, ReceiptOf, IsRun, AreWoven, IsInterleaved, SettledHistoriesAreWoven, entries_of, nothing_left, takes_one, takes_other, HaveOwnLabels}
+use Rattle.radio_stations.proofs.Words.{SettledStationsHearSlices, WorkAtHall, all_made, joint_roll, passes_of, StationsAddUp, StationsHearSlices, IsOfConnections, Made, PassesAreOfTheirWork, made_entries, nobody_came}
 
 -- entries that are woven of those of lists, as a list that is woven of these
 record IsWovenOf (one other : List Made) (history : List Entry) : Type 0 where

@@ -1,24 +1,12 @@
 -- What a worker has done at its slot, as work over its connections, under labels of a range of its own.
 use Rattle.std.proofs.Common.{◌≡◌, ◌<◌, ◌≤◌, ◌+◌, ℕ, suc, Bool, true, false, inl, inr, List, [], ◌∷◌, ◌++◌, refl, sym, ap, subst, ◌∙◌, arith, append_assoc}
-use Rattle.std.specs.Prelude.{drop, filter, length, nat_lt, remove, slice_get, take, if◌then◌else◌}
-use Rattle.std.proofs.lemmas.List.{map-append}
-use Rattle.radio_answers.specs.declared.web_answers.WebAnswers.{WebAnswers}
-use Rattle.radio_events.specs.declared.event.Event.{Event}
-use Rattle.radio_events.specs.declared.event.Event.TheVariants.{Arrive, Leave}
-use Rattle.radio_events.specs.Events.{entry}
-use Rattle.radio_events.specs.Servers.{Steps}
-use Rattle.radio_connections.specs.Connections.{Connection, lingers, without_first}
-use Rattle.radio_serving.specs.declared.turn.Turn.{Turn}
+use Rattle.radio_stations.proofs.Words.{drop, filter, length, nat_lt, remove, slice_get, take, if◌then◌else◌, map-append, WebAnswers, Event, Arrive, Leave, entry, Steps, Connection, lingers, without_first, Turn, IsTurn}
+use Rattle.radio_stations.proofs.Words.{TicksUnless, is_time_known, WatchedOf, WatchedSteps, WorkerOf, HasOnlyAsked, HasWorkedAtSlot, MayRefuse, ShiftOf, WorkerHasDone, shift_of, HasWorked, Made, Roll, UnderLabel}
+use Rattle.radio_stations.proofs.Words.{closed, enrolled, gone, here, let_go, made_on, nobody_came, nothing_yet, took_in, turned_off, unknown, AreHeld, Held, IsOther, connections, held_at}
 use Rattle.radio_serving.specs.Admission.{IsAdmission, IsTurnedOff}
-use Rattle.radio_serving.specs.Turns.{IsTurn, TicksUnless, is_time_known}
-use Rattle.radio_serving.specs.Watching.{WatchedOf, WatchedSteps}
-use Rattle.radio_serving.specs.Workers.{WorkerOf}
 use Rattle.radio_workers.specs.Leaving.{LeavesAll, LeavesUnless}
 use Rattle.radio_workers.specs.Shifts.{HasParted, without_oldest}
-use Rattle.radio_workers.specs.Working.{HasOnlyAsked, HasWorkedAtSlot, MayRefuse, ShiftOf, WorkerHasDone, shift_of}
 use Rattle.radio_workers.specs.Working.{admitted as was_admitted, closed as was_closed, nothing_yet as did_nothing, parted as was_parted, served as was_served, turned_off as was_turned_off}
-use Rattle.radio_stations.specs.Work.{HasWorked, Made, Roll, UnderLabel, closed, enrolled, gone, here, let_go, made_on, nobody_came, nothing_yet, took_in, turned_off, unknown}
-use Rattle.radio_stations.specs.Rounds.{AreHeld, Held, IsOther, connections, held_at}
 use Rattle.radio_stations.proofs.HeldLemmas.{AreLeft, AreOthers, apart_of, held_at_place, held_in, held_removed, held_then, conns_removed, left_as_before, left_by_first, other_if_unknown, other_removed, others_of, others_then, still_held, turned}
 use Rattle.radio_stations.proofs.RoundLemmas.{as_before, serves_turn}
 use Rattle.radio_stations.proofs.WorkLemmas.{enrolled_elsewhere, enrolled_here}

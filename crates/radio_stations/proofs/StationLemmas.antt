@@ -1,30 +1,12 @@
 -- From the connections and pulls of a history to what its listeners are given.
 use Rattle.std.proofs.Common.{◌≡◌, inl, inr, ℕ, true, false, List, [], ◌∷◌, ◌++◌, refl, sym, ap, subst, ◌∙◌}
-use Rattle.std.specs.Prelude.{if◌then◌else◌}
-use Rattle.std.specs.List.{AllByRecursion}
-use Rattle.radio_addr.specs.declared.peer.Peer.{Peer}
-use Rattle.radio_answers.specs.declared.web_answers.WebAnswers.{WebAnswers}
-use Rattle.radio_events.specs.declared.entry.Entry.{Entry}
-use Rattle.radio_events.specs.declared.event.Event.TheVariants.{Arrive, Leave}
-use Rattle.radio_events.specs.declared.reply.Reply.{Reply}
-use Rattle.radio_events.specs.declared.reply.Reply.TheVariants.{Arrived, Feeding, Seated, Drawn, Noted, Text, Deny, Finished, Stray}
-use Rattle.radio_events.specs.Events.{entry}
+use Rattle.radio_stations.proofs.Words.{if◌then◌else◌, AllByRecursion, Peer, WebAnswers, Entry, Arrive, Leave, Reply, Arrived, Feeding, Seated, Drawn, Noted, Text, Deny, Finished, Stray, entry, World, opening, IsRun}
+use Rattle.radio_stations.proofs.Words.{asking, said, Connection, LetsNobodyIn, IsHanded, HasCourse, HasHappened, HasLabelOrMoment, NothingWas, ServedCoursesHearSlices, WasLetGo, WasPulled, WasServed, WasTurnedAway}
+use Rattle.radio_stations.proofs.Words.{IsInterleaved, nothing_left, takes_one, takes_other, IsHandedTo, StationsAddUp, StationsHearSlices, both_rolls, course_of, either_has, given_by, IsServedThrough, IsNotLetIn}
+use Rattle.radio_stations.proofs.Words.{IsOfItsConnection, IsServedBy, IsUnder, Made, UnderLabel, closed, made_entries, entries_on, made_entry_on, gone, happening, here, pulled, unknown}
 use Rattle.radio_core.specs.Handing.{is_same_number}
 use Rattle.radio_parts.specs.Step.{reply_to, world_after}
-use Rattle.radio_parts_station.specs.World.{World, opening}
-use Rattle.radio_chronicle.specs.History.{IsRun}
-use Rattle.radio_session.specs.Conversation.{asking}
-use Rattle.radio_session.specs.Saying.{said}
-use Rattle.radio_connections.specs.Connections.{Connection}
-use Rattle.radio_connections.specs.Course.{LetsNobodyIn}
-use Rattle.radio_connections.specs.Serving.{IsHanded}
 use Rattle.radio_headline.specs.Course.{log_on}
-use Rattle.radio_headline.specs.Served.{HasCourse, HasHappened, HasLabelOrMoment, NothingWas, ServedCoursesHearSlices, WasLetGo, WasPulled, WasServed, WasTurnedAway}
-use Rattle.radio_hall.specs.Woven.{IsInterleaved, nothing_left, takes_one, takes_other}
-use Rattle.radio_stations.specs.Stations.{IsHandedTo, StationsAddUp, StationsHearSlices, both_rolls, course_of, either_has, given_by}
-use Rattle.radio_stations.specs.Turns.{IsServedThrough, IsNotLetIn}
-use Rattle.radio_stations.specs.Work.{IsOfItsConnection, IsServedBy, IsUnder, Made, UnderLabel}
-use Rattle.radio_stations.specs.Work.{closed, made_entries, entries_on, made_entry_on, gone, happening, here, pulled, unknown}
 
 -- the replies of a run are those that its entries note
 same_entry : (w : World) (e : Entry) → e.reply ≡ reply_to w e.event → entry e.event (reply_to w e.event) ≡ e

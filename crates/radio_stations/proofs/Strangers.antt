@@ -1,13 +1,6 @@
 -- Whether the client of a connection was let in, by its course.
 use Rattle.std.proofs.Common.{◌≡◌, ℕ, true, false, List, [], ◌++◌, refl, sym, subst, ◌∙◌}
-use Rattle.radio_events.specs.declared.event.Event.{Event}
-use Rattle.radio_events.specs.declared.reply.Reply.TheVariants.{Arrived}
-use Rattle.radio_session.specs.Conversation.{asking}
-use Rattle.radio_session.specs.Saying.{said}
-use Rattle.radio_connections.specs.declared.conn.Fate.{Fate}
-use Rattle.radio_connections.specs.declared.conn.Fate.TheVariants.{Open, Closed, Cut}
-use Rattle.radio_connections.specs.Course.{Arrival, LetsNobodyIn, Standing, Course}
-use Rattle.radio_connections.specs.Course.{arrives, turned_away, hears, has_room, applies, closes, is_cut, passes_over, leaves}
+use Rattle.radio_stations.proofs.Words.{Event, Arrived, asking, said, Fate, Open, Closed, Cut, Arrival, LetsNobodyIn, Standing, Course, arrives, turned_away, hears, has_room, applies, closes, is_cut, passes_over, leaves}
 
 -- a client that was let in has the number of the reply to its arrival
 pub let_in_so : (arrival : Arrival) (id : ℕ) (s : Standing) → Course arrival id s → (him : ℕ) → arrival.reply ≡ Arrived him → arrival.reply ≡ Arrived id

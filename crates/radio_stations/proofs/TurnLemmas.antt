@@ -1,24 +1,7 @@
 -- A connection over its turns.
 use Rattle.std.proofs.Common.{◌≡◌, ℕ, List, [], ◌∷◌, ◌++◌, refl, sym, subst, ◌∙◌, append_assoc}
-use Rattle.std.proofs.lemmas.List.{append-nil}
-use Rattle.radio_addr.specs.declared.peer.Peer.{Peer}
-use Rattle.radio_events.specs.declared.entry.Entry.{Entry}
-use Rattle.radio_answers.specs.declared.web_answers.WebAnswers.{WebAnswers}
-use Rattle.radio_events.specs.declared.event.Event.TheVariants.{Arrive}
-use Rattle.radio_events.specs.declared.reply.Reply.{Reply}
-use Rattle.radio_events.specs.declared.reply.Reply.TheVariants.{Arrived}
-use Rattle.radio_events.specs.Events.{entry}
-use Rattle.radio_events.specs.Servers.{Steps}
-use Rattle.radio_heads.specs.Head.{ShowsRequest}
-use Rattle.radio_heads.specs.Laws.{IsStableReading}
-use Rattle.radio_session.specs.Cuts.{PiecesAreHeardAsOne}
-use Rattle.radio_connections.specs.declared.conn.Fate.{Fate}
-use Rattle.radio_connections.specs.Connections.{Connection}
-use Rattle.radio_connections.specs.Course.{Arrival, LetsNobodyIn}
-use Rattle.radio_connections.specs.Admission.{first_entries}
-use Rattle.radio_connections.specs.Serving.{IsHanded, Stands}
-use Rattle.radio_stations.specs.Meaning.{MeansItsBytes}
-use Rattle.radio_stations.specs.Turns.{AreTurnsOf, ConnectionTurn, ConnectionsMeanTheirBytes, IsServedThrough, IsNotLetIn, StrangersAreOnlyAnswered, applied_in}
+use Rattle.radio_stations.proofs.Words.{append-nil, Peer, Entry, WebAnswers, Arrive, Reply, Arrived, entry, Steps, ShowsRequest, IsStableReading, PiecesAreHeardAsOne, Fate, Connection, Arrival, LetsNobodyIn}
+use Rattle.radio_stations.proofs.Words.{first_entries, IsHanded, Stands, MeansItsBytes, AreTurnsOf, ConnectionTurn, ConnectionsMeanTheirBytes, IsServedThrough, IsNotLetIn, StrangersAreOnlyAnswered, applied_in}
 use Rattle.radio_stations.proofs.Courses.{meant_all, meant_so}
 use Rattle.radio_stations.proofs.Strangers.{let_in_so, nobodys_so}
 

@@ -1,8 +1,6 @@
 -- Draws among the events that were asked.
 use Rattle.std.proofs.Common.{ℕ, List, [], ◌∷◌, ◌++◌}
-use Rattle.radio_events.specs.declared.event.Event.{Event}
-use Rattle.radio_events.specs.declared.event.Event.TheVariants.{Draw}
-use Rattle.radio_stations.specs.Meaning.{HasDrawsAmong, nothing, asks, draws}
+use Rattle.radio_stations.proofs.Words.{Event, Draw, HasDrawsAmong, nothing, asks, draws}
 
 -- one more was asked
 pub asked_then : (id : ℕ) (last : Event) (applied asked : List Event) → HasDrawsAmong id applied asked

@@ -1,31 +1,11 @@
 -- What a worker or a relay's thread made, as a chain of its server's steps, and label by label.
 use Rattle.std.proofs.Common.{◌≡◌, ℕ, ◌==◌, Bool, true, false, List, [], ◌∷◌, ◌++◌, refl, sym, ap, subst, ◌∙◌}
-use Rattle.std.specs.Prelude.{map, if◌then◌else◌}
-use Rattle.std.specs.List.{AllByRecursion}
-use Rattle.std.proofs.lemmas.List.{append-nil, map-append}
-use Rattle.std.proofs.lemmas.List.Concat.{flat_map-append}
-use Rattle.radio_addr.specs.declared.peer.Peer.{Peer}
-use Rattle.radio_answers.specs.declared.web_answers.WebAnswers.{WebAnswers}
-use Rattle.radio_events.specs.declared.entry.Entry.{Entry}
-use Rattle.radio_events.specs.declared.event.Event.TheVariants.{Arrive, Leave}
-use Rattle.radio_events.specs.declared.reply.Reply.{Reply}
-use Rattle.radio_events.specs.declared.reply.Reply.TheVariants.{Arrived, Feeding, Seated, Drawn, Noted, Text, Deny, Finished, Stray}
-use Rattle.radio_events.specs.Events.{entry}
-use Rattle.radio_events.specs.Servers.{Steps, Chain}
-use Rattle.radio_locks.specs.Callers.{IsCalled, PassesGainWhatWasApplied}
-use Rattle.radio_relay.specs.Applied.{PullCourse, PullSoFar}
-use Rattle.radio_connections.specs.Admission.{IsTakenIn}
-use Rattle.radio_connections.specs.Connections.{Connection}
-use Rattle.radio_connections.specs.Course.{LetsNobodyIn}
-use Rattle.radio_connections.proofs.DeedChains.{chain_one, chain_then}
-use Rattle.radio_serving.specs.Watching.{WatchedOf, WatchedSteps}
-use Rattle.radio_headline.specs.Served.{HasLabelOrMoment}
+use Rattle.radio_stations.proofs.Words.{map, if◌then◌else◌, AllByRecursion, append-nil, map-append, flat_map-append, Peer, WebAnswers, Entry, Arrive, Leave, Reply, Arrived, Feeding, Seated, Drawn, Noted, Text, Deny}
+use Rattle.radio_stations.proofs.Words.{Finished, Stray, entry, Steps, Chain, IsCalled, PassesGainWhatWasApplied, PullCourse, PullSoFar, IsTakenIn, Connection, LetsNobodyIn, chain_one, chain_then, WatchedOf}
+use Rattle.radio_stations.proofs.Words.{WatchedSteps, HasLabelOrMoment, by_number, AreTurnsOf, ConnectionTurn, ConnectionsMeanTheirBytes, StrangersAreOnlyAnswered, applied_in, HasWorked, IsOfItsConnection, IsOfItsPull}
+use Rattle.radio_stations.proofs.Words.{IsServedBy, IsUnder, Made, PassesAreOfTheirWork, Roll, UnderLabel, closed, enrolled, made_entries, entries_on, made_entry_on, gone, happening, here, let_go, made_on, moment}
+use Rattle.radio_stations.proofs.Words.{nothing_yet, pulled, pulled_in, WorkIsOfItsConnections, served, told, took_in, turned_off, unknown}
 use Rattle.radio_headline.proofs.Logs.{itself}
-use Rattle.radio_tables.proofs.KeyLaws.{by_number}
-use Rattle.radio_stations.specs.Turns.{AreTurnsOf, ConnectionTurn, ConnectionsMeanTheirBytes, StrangersAreOnlyAnswered, applied_in}
-use Rattle.radio_stations.specs.Work.{HasWorked, IsOfItsConnection, IsOfItsPull, IsServedBy, IsUnder, Made, PassesAreOfTheirWork, Roll, UnderLabel}
-use Rattle.radio_stations.specs.Work.{closed, enrolled, made_entries, entries_on, made_entry_on, gone, happening, here, let_go, made_on, moment, nothing_yet, pulled, pulled_in}
-use Rattle.radio_stations.specs.Work.{WorkIsOfItsConnections, served, told, took_in, turned_off, unknown}
 
 entries_joined : (made more : List Made) → made_entries (made ++ more) ≡ made_entries made ++ made_entries more
 entries_joined made more = map-append (λ (m : Made). m.done) made more

@@ -3,9 +3,8 @@ use Rattle.std.proofs.Common.{◌≡◌, ℕ, List, [], ◌∷◌, ◌++◌, Boo
 use Rattle.std.proofs.lemmas.List.Elements.{filter-append}
 use Rattle.radio_relay.specs.declared.orders.RelayOrder.{RelayOrder}
 use Rattle.radio_relay.specs.declared.orders.RelayOrder.TheVariants.{Start, Stop}
-use Rattle.radio_settings_values.specs.declared.settings.RelaySetting.{RelaySetting}
+use Rattle.radio_tries.proofs.Words.{RelaySetting, started_by, stopped_by, own_of, other_started_relays, is_settings_relay}
 use Rattle.radio_settings_values.specs.declared.settings.Settings.{Settings}
-use Rattle.radio_tries.specs.Wishes.{started_by, stopped_by, own_of, other_started_relays, is_settings_relay}
 
 pub stopped-append : (xs ys : List RelayOrder) → stopped_by (xs ++ ys) ≡ stopped_by xs ++ stopped_by ys
 stopped-append [] ys = refl

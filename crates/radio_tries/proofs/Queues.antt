@@ -1,11 +1,9 @@
 -- A queue that grows by one.
 use Rattle.std.proofs.Common.{◌≡◌, ◌<◌, ℕ, ◌+◌, List, [], ◌∷◌, ◌++◌, length, map, take, get_or, arith, ap, sym, ◌∙◌, Global}
 use Rattle.std.specs.List.{enumerate_from}
-use Rattle.std.specs.Arc.{arc_value}
+use Rattle.radio_tries.proofs.Words.{arc_value, RelaySetting, Trials, queue, waiting_of}
 use Rattle.std.specs.declared.sync.Arc.{Arc}
 use Rattle.std.proofs.lemmas.List.{map-append, take_more, length-map, length-take-le}
-use Rattle.radio_settings_values.specs.declared.settings.RelaySetting.{RelaySetting}
-use Rattle.radio_tries.specs.Tries.{Trials, queue, waiting_of}
 
 module _ {X : Type 0} where
   pub enumerate-append : (n : ℕ) (xs ys : List X) → enumerate_from n (xs ++ ys) ≡ enumerate_from n xs ++ enumerate_from (n + length xs) ys

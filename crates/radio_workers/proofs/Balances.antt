@@ -5,11 +5,8 @@ use mathlib.Core.Option.{some}
 use lib.ListN.{get_elem?}
 use Rattle.crossbeam_queue.specs.Fifo.{Pushes, Pops, Forks, Merges, Learns, Held}
 use Rattle.crossbeam_queue.proofs.Lists.{at_set, at_snoc}
-use Rattle.radio_workers.specs.declared.intake.TheConstants.{ROOM}
+use Rattle.radio_workers.proofs.Words.{ROOM, all_parts, weigh, IdleIsEmpty, IsBalanced, IsKnown, IsPut, IsTaken, idle, less_one, sum_of_transfers, put_by, taken_by, sum_of, part_count}
 use Rattle.radio_workers.specs.declared.rule.Transfers.{Transfers}
-use Rattle.radio_workers.specs.Passes.{all_parts, weigh}
-use Rattle.radio_workers.specs.Balance.{IdleIsEmpty, IsBalanced, IsKnown, IsPut, IsTaken, idle, less_one, sum_of_transfers}
-use Rattle.radio_workers.specs.Balance.{put_by, taken_by, sum_of, part_count}
 use Rattle.radio_workers.proofs.Sums.{lengths-add_up, total-append, total-set, weigh-append}
 
 module _ {L : Type 0} where

@@ -1,6 +1,6 @@
 -- A list without its first element that passes.
 use Rattle.std.proofs.Common.{◌≡◌, ◌<◌, ◌+◌, ℕ, zero, suc, Bool, true, false, not, List, [], ◌∷◌, length, get_or, filter, refl, ap, arith}
-use Rattle.std.specs.List.{remove, position_or_len}
+use Rattle.radio_workers.proofs.Words.{remove, position_or_len}
 
 module _ {X : Type 0} (p : X → Bool) where
   -- without one that passes there is one fewer

@@ -3,15 +3,12 @@ use Rattle.std.proofs.Common.{◌≡◌, ℕ, Bool, true, false, List, [], Resul
 use Rattle.radio_addr.specs.declared.peer.Peer.{Peer}
 use Rattle.radio_events.specs.declared.event.Event.{Event}
 use Rattle.radio_events.specs.Servers.{Steps}
-use Rattle.radio_connections.specs.Connections.{Connection}
+use Rattle.radio_workers.proofs.Words.{Connection, HasParted, without_oldest, WorkerHasDone, HasOnlyAsked, MayRefuse, ShiftOf, shift_of, admitted, closed, nothing_yet, parted, served, turned_off}
 use Rattle.radio_serving.specs.Admission.{IsAdmission, IsTurnedOff}
 use Rattle.radio_serving.specs.declared.turn.Turn.{Turn}
 use Rattle.radio_serving.specs.Turns.{IsTurn}
 use Rattle.radio_serving.specs.Watching.{WatchedOf, WatchedSteps}
 use Rattle.radio_serving.specs.Workers.{WorkerOf}
-use Rattle.radio_workers.specs.Shifts.{HasParted, without_oldest}
-use Rattle.radio_workers.specs.Working.{WorkerHasDone, HasOnlyAsked, MayRefuse, ShiftOf, shift_of}
-use Rattle.radio_workers.specs.Working.{admitted, closed, nothing_yet, parted, served, turned_off}
 
 module _ {S : Type 0} (steps : Steps S) (refuses : S → Event → Type 0) where
   pub done_none : (shift : ShiftOf S) → WorkerHasDone steps refuses shift shift

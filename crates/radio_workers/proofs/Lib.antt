@@ -6,3 +6,4 @@ pub mod Doings
 mod Lingering
 pub mod Partings
 pub mod Takings
+mod Words

@@ -1,11 +1,8 @@
 -- What is left once the oldest connection that lingers was closed.
 use Rattle.std.proofs.Common.{◌≡◌, ◌<◌, ◌+◌, ℕ, Bool, true, false, not, Option, None, Some, List, [], ◌∷◌, length, filter, nat_lt, refl, arith, if◌then◌else◌}
-use Rattle.std.specs.List.{position, position_or_len}
-use Rattle.std.proofs.lemmas.Bool.Decides.{nat_tests}
+use Rattle.radio_workers.proofs.Words.{position, position_or_len, nat_tests, Connection, lingers, without_at, without_first, without_oldest}
 use Rattle.std.proofs.lemmas.Grind.{common_steps}
 use Rattle.std.proofs.lemmas.List.Quantifiers.{position-Some}
-use Rattle.radio_connections.specs.Connections.{Connection, lingers, without_at, without_first}
-use Rattle.radio_workers.specs.Shifts.{without_oldest}
 use Rattle.radio_workers.proofs.Cuts.{fewer, others, first_inside}
 
 pub one_fewer : (xs : List Connection) → 0 < length (filter lingers xs) → length (filter lingers (without_first xs)) + 1 ≡ length (filter lingers xs)

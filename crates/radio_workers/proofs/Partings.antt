@@ -1,9 +1,8 @@
 -- How many connections a worker has once one was moved.
 use Rattle.std.proofs.Common.{◌≡◌, ◌+◌, ◌<◌, Bool, true, false, List, [], ◌∷◌, length, take, drop, ap, arith, length-append, length-drop, length-take-le}
 use Rattle.std.proofs.lemmas.Option.{slice_get_within}
-use Rattle.radio_connections.specs.Connections.{Connection}
+use Rattle.radio_workers.proofs.Words.{Connection, HasParted}
 use Rattle.radio_serving.specs.Sources.{FeedingClients}
-use Rattle.radio_workers.specs.Shifts.{HasParted}
 
 -- none is lost by it
 pub parted_count : (is_moved : Bool) (feeding : FeedingClients) (sources conns sources' conns' : List Connection)

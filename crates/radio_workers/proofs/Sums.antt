@@ -2,8 +2,7 @@
 use Rattle.std.proofs.Common.{◌≡◌, ℕ, zero, suc, ◌+◌, List, [], ◌∷◌, ◌++◌, length, set, sym, refl, ap, arith}
 use mathlib.Core.Option.{some, some-injective, some-ne-none}
 use lib.ListN.{get_elem?}
-use Rattle.radio_workers.specs.Passes.{IsTakenOrLeft, weigh}
-use Rattle.radio_workers.specs.Balance.{sum_of}
+use Rattle.radio_workers.proofs.Words.{IsTakenOrLeft, weigh, sum_of}
 
 module _ {L : Type 0} where
   pub weigh-append : (weight : L → ℕ) (xs ys : List L) → weigh weight (xs ++ ys) ≡ weigh weight xs + weigh weight ys

@@ -1,7 +1,6 @@
 -- What is taken through a pass of an intake, step after step.
 use Rattle.std.proofs.Common.{◌≡◌, refl, sym, ◌∙◌, ap, [], ◌∷◌, ◌++◌, append-nil, append_assoc}
-use Rattle.radio_workers.specs.Passes.{PassRecord}
-use Rattle.radio_workers.specs.TakenConnections.{HasTakenMore}
+use Rattle.radio_workers.proofs.Words.{PassRecord, HasTakenMore}
 
 module _ {L : Type 0} where
   pub taken_none : (pass : PassRecord L) → HasTakenMore pass pass

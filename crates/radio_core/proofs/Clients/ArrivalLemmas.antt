@@ -1,35 +1,13 @@
 -- through each event, a client who is there keeps the address from which it came, and the moment
 use Rattle.std.proofs.Common.{◌≡◌, true, ℕ, ◌==◌, ◌+◌, Option, Some, None, List, [], ◌∷◌, map, refl, ap, sym, subst, ◌∙◌, arith}
-use Rattle.std.specs.Prelude.{fold}
-use Rattle.std.specs.Option.{option_map}
-use Rattle.std.proofs.lemmas.Bool.Decides.{nat_tests}
-use Rattle.radio_addr.specs.declared.peer.Peer.{Peer}
-use Rattle.radio_tables.proofs.KeyLaws.{by_number}
-use Rattle.radio_events.specs.declared.command.Command.{Command}
-use Rattle.radio_events.specs.declared.command.Command.TheVariants.{MoveClients, KillClient, KillSource, SetTitle, SetFallback, AddUser, DeleteUser}
-use Rattle.radio_events.specs.declared.event.Event.{Event}
-use Rattle.radio_parts_station.specs.declared.clients.ClientState.{ClientState}
-use Rattle.radio_parts_station.specs.declared.clients.ClientState.TheVariants.{Undecided as IsNew, Feeds as IsSource, Listens, Answered as HasHisAnswer}
-use Rattle.radio_parts.specs.declared.outcome.Outcome.{Outcome}
-use Rattle.radio_parts_changes.specs.declared.change.Change.TheVariants.{Admit, Obey}
-use Rattle.radio_parts_station.specs.declared.standing.Standing.TheVariants.{Unknown}
-use Rattle.radio_parts_station.specs.StationState.{StationState}
-use Rattle.radio_parts_station.specs.Streams.{shown_for}
-use Rattle.radio_parts_changes.specs.Changes.{answered, session_killed, changed, before_silence, session_silenced, silent_in, ticked, session_begun, session_raised}
-use Rattle.radio_core.specs.ClientSteps.{ArrivalsStay}
-use Rattle.radio_parts_station.specs.Clients.{Client, client_of, with_client_state, in_state, without_client}
-use Rattle.radio_parts_mount.specs.Sessions.{Session, session_of}
-use Rattle.radio_core.specs.Sound.{IsSound}
-use Rattle.radio_parts.specs.Step.{outcome, world_after}
-use Rattle.radio_parts_station.specs.Timeouts.{timed_out}
-use Rattle.radio_parts.specs.Ways.{Way, Misplaced, IsFinished, IsDenied, IsRefused, IsAdmitted, Begins, ComesUp, Receives, SetsTitle, TakesSeat, HandsOut, Ends}
-use Rattle.radio_parts.specs.Ways.{EndsAndLeaves, Leaves, GoesDown, Obeys, Shows, HasPassed, Ticks}
-use Rattle.radio_parts_station.specs.World.{World, standing_of}
-use Rattle.radio_parts.proofs.CalledStation.{station_called}
-use Rattle.radio_parts_station.proofs.Lookups.{does, still_none, beside_state, is_no_client, beside_forgotten, beside_new}
+use Rattle.radio_core.proofs.Words.{fold, option_map, nat_tests, Peer, by_number, Command, MoveClients, KillClient, KillSource, SetTitle, SetFallback, AddUser, DeleteUser, Event, ClientState, Listens, Outcome, Admit}
+use Rattle.radio_core.proofs.Words.{Obey, Unknown, StationState, shown_for, answered, session_killed, changed, before_silence, session_silenced, silent_in, ticked, session_begun, session_raised, ArrivalsStay, Client}
+use Rattle.radio_core.proofs.Words.{client_of, with_client_state, in_state, without_client, Session, session_of, IsSound, outcome, world_after, timed_out, Way, Misplaced, IsFinished, IsDenied, IsRefused, IsAdmitted}
+use Rattle.radio_core.proofs.Words.{Begins, ComesUp, Receives, SetsTitle, TakesSeat, HandsOut, Ends, EndsAndLeaves, Leaves, GoesDown, Obeys, Shows, HasPassed, Ticks, World, standing_of, station_called, does, still_none}
+use Rattle.radio_core.proofs.Words.{beside_state, is_no_client, beside_forgotten, beside_new, way_of}
+use Rattle.radio_parts_station.specs.declared.clients.ClientState.TheVariants.{Undecided as IsNew, Feeds as IsSource, Answered as HasHisAnswer}
 use Rattle.radio_core.proofs.Sessions.TickLemmas.{clients_after}
 use Rattle.radio_core.proofs.Clients.Standings.{no_client_there}
-use Rattle.radio_parts.proofs.Ways.{way_of}
 
 -- it was there before, from the same address and from the same moment on
 record WasThere (xs : List Client) (id : ℕ) (later : Client) : Type 0 where

@@ -1,35 +1,12 @@
 -- how each listener fares where a source comes up on a mount that calls its listeners home
 use Rattle.std.proofs.Common.{◌≡◌, ◌+◌, arith, Bool, true, false, ℕ, Some, None, List, refl, ap, sym, ◌∙◌}
-use Rattle.std.specs.Prelude.{◌&&◌, not, if◌then◌else◌}
-use Rattle.std.specs.Str.{bytes_eq}
-use Rattle.std.proofs.lemmas.Bool.{and_parts}
-use Rattle.std.proofs.lemmas.Slice.Eq.{bytes_eq-Decides}
-use Rattle.radio_policy.specs.declared.rule.Rule.{Rule}
-use Rattle.radio_access.specs.Lists.{lets_in}
-use Rattle.radio_settings_values.specs.Options.{options_for}
-use Rattle.radio_seats_rows.specs.declared.seat.Listener.{Listener}
-use Rattle.radio_seats_rows.specs.declared.seat.Seat.{Seat}
-use Rattle.radio_seats_rows.specs.Seats.{seat_of}
-use Rattle.radio_fallback.specs.declared.moves.Move.TheVariants.{Up}
-use Rattle.radio_fallback.specs.declared.moves.MoveEffect.TheVariants.{GoesTo}
-use Rattle.radio_fallback.specs.Carry.{at_his_turn}
-use Rattle.radio_fallback.proofs.Faring.{comes_home, never_out}
-use Rattle.radio_parts_changes.specs.declared.change.Change.TheVariants.{Begin, Raise}
-use Rattle.radio_parts_station.specs.declared.standing.Standing.TheVariants.{Undecided, Feeds}
-use Rattle.radio_addr.specs.declared.peer.Peer.{Peer}
-use Rattle.radio_values.specs.declared.field.Shown.{Shown}
-use Rattle.radio_parts_changes.specs.Changes.{changed, carried_along, called_home, session_begun, session_raised}
-use Rattle.radio_parts_station.specs.StationChanges.{begun, raised}
-use Rattle.radio_parts_station.specs.Facts.{sight_of}
-use Rattle.radio_core.specs.Moves.{his_turn, moved_into}
-use Rattle.radio_parts_mount.specs.Sessions.{Session, session_of}
-use Rattle.radio_core.specs.Sound.{IsSound}
-use Rattle.radio_parts_station.specs.World.{World, standing_of}
+use Rattle.radio_core.proofs.Words.{◌&&◌, not, if◌then◌else◌, bytes_eq, and_parts, bytes_eq-Decides, Rule, lets_in, options_for, Listener, Seat, seat_of, Up, GoesTo, at_his_turn, comes_home, never_out, Begin, Raise}
+use Rattle.radio_core.proofs.Words.{Undecided, Feeds, Peer, Shown, changed, carried_along, called_home, session_begun, session_raised, begun, raised, sight_of, his_turn, moved_into, Session, session_of, IsSound, World}
+use Rattle.radio_core.proofs.Words.{standing_of, heard_at}
 use Rattle.radio_core.proofs.Clients.CarriedFates.{order_carried, carried_fate}
 use Rattle.radio_core.proofs.Sound.SoundSessions.{sound_begun, sound_raised}
 use Rattle.radio_core.proofs.Clients.Standings.{Turns, asks, turns_feeding, turns_raised, turns_given}
 use Rattle.radio_core.proofs.Clients.Fates.{Fate, GoesOn, IsEnded, HasStopped, IsMoved, Fates, Nobody, sound_fates}
-use Rattle.radio_parts_station.specs.Waiting.{heard_at}
 
 abbrev Nothing : ℕ → Rule → Type 0
 Nothing id rule = ⊥

@@ -1,35 +1,11 @@
 -- how each client fares where a move carries listeners along
 use Rattle.std.proofs.Common.{◌≡◌, true, ℕ, Option, Some, None, is_some, List, refl, ap, sym, ◌∙◌}
-use Rattle.std.proofs.lemmas.Bool.{and_parts}
-use Rattle.radio_policy.specs.declared.rule.Rule.{Rule}
-use Rattle.radio_access.specs.Lists.{Lists, lets_in}
-use Rattle.radio_seats_rows.specs.declared.seat.Listener.{Listener}
-use Rattle.radio_seats_rows.specs.declared.seat.Seat.{Seat}
+use Rattle.radio_core.proofs.Words.{and_parts, Rule, Lists, lets_in, Listener, Seat, listener_of, seat_of, seat_in, AreByNumber, Move, Stays, GoesTo, IsOut, MaySit, concerns, seat_at_end, numbers_kept, Faring, HasStayed}
+use Rattle.radio_core.proofs.Words.{HasGone, HasLost, fares, StationState, Sits, carried_along, Client, client_of, Relay, relay_of, sight_of, live_end, his_turn, moved_into, Session, IsSound, end_of, World, standing_of}
+use Rattle.radio_core.proofs.Words.{standing_of_found, same_order, heard_end, heard_named, heard_number, heard_at}
 use Rattle.radio_seats_rows.specs.declared.seat.Seating.TheVariants.{Sits as HasSeat, Finished as HasLostIt}
-use Rattle.radio_seats_rows.specs.Seats.{listener_of, seat_of, seat_in, AreByNumber}
-use Rattle.radio_fallback.specs.declared.moves.Move.{Move}
-use Rattle.radio_fallback.specs.declared.moves.MoveEffect.TheVariants.{Stays, GoesTo, IsOut}
-use Rattle.radio_fallback.specs.Walk.{MaySit}
-use Rattle.radio_fallback.specs.Carry.{concerns}
-use Rattle.radio_fallback.specs.Fares.{seat_at_end}
-use Rattle.radio_fallback.proofs.FaresLemmas.{numbers_kept}
-use Rattle.radio_fallback.proofs.Faring.{Faring, HasStayed, HasGone, HasLost, fares}
-use Rattle.radio_parts_station.specs.StationState.{StationState}
-use Rattle.radio_parts_station.specs.declared.standing.Standing.TheVariants.{Sits}
-use Rattle.radio_parts_changes.specs.Changes.{carried_along}
-use Rattle.radio_parts_station.specs.Clients.{Client, client_of}
-use Rattle.radio_parts_station.specs.Relays.{Relay, relay_of}
-use Rattle.radio_parts_station.specs.Facts.{sight_of, live_end}
-use Rattle.radio_core.specs.Moves.{his_turn, moved_into}
-use Rattle.radio_parts_mount.specs.Sessions.{Session}
-use Rattle.radio_core.specs.Sound.{IsSound}
-use Rattle.radio_parts_mount.specs.Stream.{end_of}
-use Rattle.radio_parts_station.specs.World.{World, standing_of, standing_of_found}
 use Rattle.radio_core.proofs.Clients.Fates.{Fate, IsEnded, IsMoved, lost_in, active_sitter}
-use Rattle.radio_parts_mount.proofs.NumberOrder.{same_order}
 use Rattle.radio_core.proofs.Clients.Standings.{sits_in}
-use Rattle.radio_parts.proofs.HeardLemmas.{heard_end, heard_named, heard_number}
-use Rattle.radio_parts_station.specs.Waiting.{heard_at}
 
 -- a carry leaves the listeners in their order
 pub order_carried : (w : World) (move : Move) → AreByNumber w.seats → AreByNumber (carried_along w move).seats

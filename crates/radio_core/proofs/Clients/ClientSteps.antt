@@ -1,35 +1,14 @@
 -- what an event does to the standing of one client
 use Rattle.std.proofs.Common.{◌≡◌, ◌⊎◌, inl, inr, ℕ, ◌<◌, true, false, List, Some, refl, ap, sym, subst, ◌∙◌}
-use Rattle.radio_policy.specs.declared.rule.Rule.{Rule}
-use Rattle.radio_access.specs.Lists.{passes}
-use Rattle.radio_values.specs.declared.field.Shown.{Shown}
-use Rattle.radio_events.specs.declared.event.Event.{Event}
-use Rattle.radio_events.specs.declared.event.Event.TheVariants.{Arrive, Push, SourceEnd, Leave, RelayUp, RelayDown}
-use Rattle.radio_events.specs.declared.reply.Reply.TheVariants.{Arrived, Deny}
-use Rattle.radio_events.specs.Events.{client_in}
-use Rattle.radio_parts.specs.declared.outcome.Outcome.{Outcome}
-use Rattle.radio_parts_station.specs.declared.standing.Standing.{Standing}
-use Rattle.radio_parts_station.specs.declared.standing.Standing.TheVariants.{Unknown, Undecided, Feeds, Finished as HasFinished}
-use Rattle.radio_parts_changes.specs.Changes.{changed, block_received}
-use Rattle.radio_core.specs.ClientSteps.{ClientStep, Stays, Arrives, IsAnswered, IsObeyed, IsShown, BeginsToFeed, SitsDown, StopsFeeding, ClientsStep}
+use Rattle.radio_core.proofs.Words.{Rule, passes, Shown, Event, Arrive, Push, SourceEnd, Leave, RelayUp, RelayDown, Arrived, Deny, client_in, Outcome, Standing, Unknown, Undecided, Feeds, changed, block_received}
+use Rattle.radio_core.proofs.Words.{ClientStep, Arrives, IsAnswered, IsObeyed, IsShown, BeginsToFeed, StopsFeeding, ClientsStep, Cause, Finishes, first_seat, rows_to_raise, StandsOn, HasCome, AsClient, AsRelay}
+use Rattle.radio_core.proofs.Words.{on_verdict, raises, Nothing, Allow, verdict_in, IsSound, shown_for, outcome, reply_to, world_after, Way, Misplaced, IsFinished, IsDenied, IsRefused, IsAdmitted, Begins, ComesUp}
+use Rattle.radio_core.proofs.Words.{Receives, SetsTitle, TakesSeat, HandsOut, Ends, EndsAndLeaves, Leaves, GoesDown, Obeys, Shows, HasPassed, Ticks, World, standing_of, has_relay, listener_seated, way_of}
+use Rattle.radio_parts_station.specs.declared.standing.Standing.TheVariants.{Finished as HasFinished}
+use Rattle.radio_core.specs.ClientSteps.{Stays, SitsDown}
 use Rattle.radio_core.specs.ClientSteps.{Leaves as HeLeaves, ComesUp as ItComesUp, GoesDown as ItGoesDown, IsFinished as HeIsFinished}
-use Rattle.radio_core.specs.Finishes.{Cause, Finishes}
-use Rattle.radio_parts.specs.Listen.{first_seat}
-use Rattle.radio_parts_station.specs.Facts.{rows_to_raise}
-use Rattle.radio_core.specs.Others.{StandsOn, HasCome, AsClient, AsRelay}
-use Rattle.radio_parts.specs.Outcomes.{on_verdict}
-use Rattle.radio_parts.specs.RelayUp.{raises}
-use Rattle.radio_parts_changes.specs.declared.change.Change.TheVariants.{Nothing}
 use Rattle.radio_policy.specs.declared.judgement.Verdict.{Verdict}
-use Rattle.radio_policy.specs.declared.judgement.Verdict.TheVariants.{Allow, Deny as Denied}
-use Rattle.radio_policy.specs.Verdicts.{verdict_in}
-use Rattle.radio_core.specs.Sound.{IsSound}
-use Rattle.radio_parts_station.specs.Streams.{shown_for}
-use Rattle.radio_parts.specs.Step.{outcome, reply_to, world_after}
-use Rattle.radio_parts.specs.Ways.{Way, Misplaced, IsFinished, IsDenied, IsRefused, IsAdmitted, Begins, ComesUp, Receives, SetsTitle, TakesSeat, HandsOut, Ends}
-use Rattle.radio_parts.specs.Ways.{EndsAndLeaves, Leaves, GoesDown, Obeys, Shows, HasPassed, Ticks}
-use Rattle.radio_parts_station.specs.World.{World, standing_of, has_relay}
-use Rattle.radio_seats_rows.proofs.SeatLaws.{listener_seated}
+use Rattle.radio_policy.specs.declared.judgement.Verdict.TheVariants.{Deny as Denied}
 use Rattle.radio_core.proofs.Clients.CalledHome.{turns_up}
 use Rattle.radio_core.proofs.Clients.ClosingLemmas.{closes_his, leaves_or_goes_down}
 use Rattle.radio_core.proofs.Clients.Fates.{Fate, GoesOn, IsEnded, HasStopped, IsMoved, HasEnded, Nobody}
@@ -41,7 +20,6 @@ use Rattle.radio_core.proofs.Clients.ReplyLemmas.{replies_fit}
 use Rattle.radio_core.proofs.Sound.SoundEnds.{turns_ended, turns_ended_and_left}
 use Rattle.radio_core.proofs.Sound.SoundRuns.{grown_world, NoMove, lag_fates}
 use Rattle.radio_core.proofs.Clients.Standings.{asks, turns_answered, turns_sitting, turns_forgotten, stays_hearing}
-use Rattle.radio_parts.proofs.Ways.{way_of}
 
 turned : (w : World) (C : Rule → Type 0) (event : Event) (id : ℕ) {before a later b : Standing} → before ≡ a → later ≡ b → ClientStep w C event id before later
     → ClientStep w C event id a b

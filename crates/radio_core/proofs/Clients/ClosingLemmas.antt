@@ -1,10 +1,6 @@
 -- whose connection an event closes
 use Rattle.std.proofs.Common.{◌≡◌, ◌⊎◌, inl, inr, ℕ, true, false, Some, refl}
-use Rattle.radio_events.specs.declared.event.Event.{Event}
-use Rattle.radio_events.specs.declared.event.Event.TheVariants.{Leave, RelayDown}
-use Rattle.radio_events.specs.Events.{client_in}
-use Rattle.radio_parts.specs.Closing.{Closes, OfClient, OfRelay}
-use Rattle.radio_parts_station.specs.World.{World, has_relay}
+use Rattle.radio_core.proofs.Words.{Event, Leave, RelayDown, client_in, Closes, OfClient, OfRelay, World, has_relay}
 
 -- whose it is
 pub closes_his : (w : World) (id : ℕ) (event : Event) → Closes w id event → client_in event ≡ Some id

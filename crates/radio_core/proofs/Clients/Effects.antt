@@ -1,34 +1,9 @@
 -- what an event does to the standings of clients
 use Rattle.std.proofs.Common.{◌≡◌, true, false, ℕ, ◌+◌, ◌==◌, Some, None, List, refl, ap, sym, ◌∙◌}
-use Rattle.radio_addr.specs.declared.peer.Peer.{Peer}
-use Rattle.radio_policy.specs.declared.rule.Rule.{Rule}
-use Rattle.radio_events.specs.declared.event.Event.{Event}
-use Rattle.radio_events.specs.declared.event.Event.TheVariants.{Push, SourceEnd, Clock}
-use Rattle.radio_tables.proofs.KeyLaws.{by_number}
-use Rattle.radio_events.specs.declared.command.Command.{Command}
-use Rattle.radio_parts.specs.Allowed.{IsCommanded}
-use Rattle.radio_parts_changes.specs.declared.change.Change.TheVariants.{End, EndAndLeave, Obey}
-use Rattle.radio_parts.specs.declared.outcome.Outcome.{Outcome}
-use Rattle.radio_events.specs.declared.reply.Reply.{Reply}
-use Rattle.radio_events.specs.declared.reply.Reply.TheVariants.{Arrived}
-use Rattle.radio_parts_station.specs.declared.standing.Standing.{Standing}
-use Rattle.radio_parts_station.specs.declared.standing.Standing.TheVariants.{Unknown, Undecided, Feeds, Sits, Answered, Finished}
-use Rattle.radio_access.specs.Lists.{passes}
-use Rattle.radio_parts_station.specs.World.{World, standing_of}
-use Rattle.radio_parts_changes.specs.Changes.{changed, block_received, ticked}
-use Rattle.radio_core.specs.Finishes.{Cause}
-use Rattle.radio_core.specs.Moves.{TakesTo}
-use Rattle.radio_parts.specs.Listen.{first_seat}
-use Rattle.radio_seats_rows.specs.declared.seat.Seat.{Seat}
-use Rattle.radio_seats_rows.specs.Seats.{seat_of}
-use Rattle.radio_parts_mount.specs.Sessions.{Session}
-use Rattle.radio_core.specs.Sound.{IsSound}
-use Rattle.radio_parts_station.specs.Streams.{shown_for}
-use Rattle.radio_parts.specs.Step.{outcome, reply_to, world_after}
-use Rattle.radio_parts.specs.Ways.{Way, Misplaced, IsFinished, IsDenied, IsRefused, IsAdmitted, Begins, ComesUp, Receives, SetsTitle, TakesSeat, HandsOut, Ends}
-use Rattle.radio_parts.specs.Ways.{EndsAndLeaves, Leaves, GoesDown, Obeys, Shows, HasPassed, Ticks}
-use Rattle.radio_events.specs.Events.{client_in}
-use Rattle.radio_seats_rows.proofs.SeatLaws.{listener_seated}
+use Rattle.radio_core.proofs.Words.{Peer, Rule, Event, Push, SourceEnd, Clock, by_number, Command, IsCommanded, End, EndAndLeave, Obey, Outcome, Reply, Arrived, Standing, Unknown, Undecided, Feeds, Sits, Answered}
+use Rattle.radio_core.proofs.Words.{Finished, passes, World, standing_of, changed, block_received, ticked, Cause, TakesTo, first_seat, Seat, seat_of, Session, IsSound, shown_for, outcome, reply_to, world_after, Way}
+use Rattle.radio_core.proofs.Words.{Misplaced, IsFinished, IsDenied, IsRefused, IsAdmitted, Begins, ComesUp, Receives, SetsTitle, TakesSeat, HandsOut, Ends, EndsAndLeaves, Leaves, GoesDown, Obeys, Shows, HasPassed}
+use Rattle.radio_core.proofs.Words.{Ticks, client_in, listener_seated, way_of, may_arrive}
 use Rattle.radio_core.proofs.Clients.CalledHome.{turns_up, turns_risen}
 use Rattle.radio_core.proofs.Clients.Standings.{Turns, asks, turns_answered, turns_sitting, turns_forgotten, turns_admitted, stays_hearing}
 use Rattle.radio_core.proofs.Clients.Fates.{IsDone, Fate, GoesOn, IsEnded, HasStopped, IsMoved, HasEnded, Nobody}
@@ -36,7 +11,6 @@ use Rattle.radio_core.proofs.Sound.SoundEnds.{ended_fates, ended_and_left_fates}
 use Rattle.radio_core.proofs.Sound.SoundRuns.{grown_world, NoMove, lag_fates}
 use Rattle.radio_core.proofs.Sessions.TickLemmas.{ClockCarries, ticked_fates}
 use Rattle.radio_core.proofs.Clients.Obeyed.{LeavesFor, Takes, obeyed, is_answered, others_stood}
-use Rattle.radio_parts.proofs.Ways.{way_of, may_arrive}
 
 -- nobody finishes by its own event, and nobody is again yet to ask after it
 abbrev pub HasActed : Standing → Type 0

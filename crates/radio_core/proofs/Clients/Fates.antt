@@ -1,27 +1,11 @@
 -- how each client fares by an event that ends something, or carries listeners along
 use Rattle.std.proofs.Common.{◌≡◌, ◌⊎◌, inl, inr, Bool, true, ℕ, ◌<◌, Option, Some, None, List, refl, ap, sym, subst, ◌∙◌, arith, false, ◌==◌}
-use Rattle.radio_policy.specs.declared.rule.Rule.{Rule}
-use Rattle.radio_access.specs.Lists.{Lists, lets_in}
-use Rattle.radio_seats_rows.specs.declared.seat.Listener.{Listener}
-use Rattle.radio_seats_rows.specs.declared.seat.Seat.{Seat}
+use Rattle.radio_core.proofs.Words.{Rule, Lists, lets_in, Listener, Seat, LosesSeat, same_or_loses, listener_of, seat_of, seat_in, with_ended, AreByNumber, ClientState, Listens, Ended, Standing, Unknown, Undecided}
+use Rattle.radio_core.proofs.Words.{Feeds, Sits, Answered, Finished, Client, client_of, Relay, relay_of, moved_into, Session, session_of, AreApart, IsSeatedIn, IsSound, asks_too_late, World, standing_of}
+use Rattle.radio_core.proofs.Words.{standing_of_found, standing_of_client, order_ended, heard_at, heard_same}
 use Rattle.radio_seats_rows.specs.declared.seat.Seating.TheVariants.{Finished as HasLostIt}
-use Rattle.radio_seats_rows.proofs.EndLaws.{LosesSeat, same_or_loses}
-use Rattle.radio_seats_rows.specs.Seats.{listener_of, seat_of, seat_in, with_ended, AreByNumber}
-use Rattle.radio_parts_station.specs.declared.clients.ClientState.{ClientState}
-use Rattle.radio_parts_station.specs.declared.clients.ClientState.TheVariants.{Undecided as IsNew, Feeds as IsSource, Listens, Answered as HasHisAnswer, Ended}
-use Rattle.radio_parts_station.specs.declared.standing.Standing.{Standing}
-use Rattle.radio_parts_station.specs.declared.standing.Standing.TheVariants.{Unknown, Undecided, Feeds, Sits, Answered, Finished}
-use Rattle.radio_parts_station.specs.Clients.{Client, client_of}
-use Rattle.radio_parts_station.specs.Relays.{Relay, relay_of}
-use Rattle.radio_core.specs.Moves.{moved_into}
-use Rattle.radio_parts_mount.specs.Sessions.{Session, session_of, AreApart}
-use Rattle.radio_core.specs.Sound.{IsSeatedIn, IsSound}
-use Rattle.radio_parts_station.specs.Timeouts.{asks_too_late}
-use Rattle.radio_parts_station.specs.World.{World, standing_of, standing_of_found, standing_of_client}
-use Rattle.radio_parts_mount.proofs.NumberOrder.{order_ended}
+use Rattle.radio_parts_station.specs.declared.clients.ClientState.TheVariants.{Undecided as IsNew, Feeds as IsSource, Answered as HasHisAnswer}
 use Rattle.radio_core.proofs.Clients.Standings.{no_relay_sits}
-use Rattle.radio_parts_station.specs.Waiting.{heard_at}
-use Rattle.radio_parts.proofs.HeardLemmas.{heard_same}
 
 -- there is something that can end for it
 abbrev pub IsActive : Standing → Type 0

@@ -1,26 +1,11 @@
 -- what an event does to others, and whom it finishes
 use Rattle.std.proofs.Common.{◌≡◌, ◌⊎◌, inl, inr, true, false, ℕ, ◌+◌, ◌<◌, ◌==◌, Option, Some, refl, ap, sym, subst, ◌∙◌, arith}
-use Rattle.radio_policy.specs.declared.rule.Rule.{Rule}
-use Rattle.radio_addr.specs.declared.peer.Peer.{Peer}
-use Rattle.radio_access.specs.Lists.{passes}
-use Rattle.radio_tables.proofs.KeyLaws.{by_number}
-use Rattle.radio_parts_station.specs.Clients.{Client}
-use Rattle.radio_parts_station.specs.Relays.{Relay, relay_of}
+use Rattle.radio_core.proofs.Words.{Rule, Peer, passes, by_number, Client, Relay, relay_of, Listener, Seat, Event, Outcome, Arrived, Standing, Unknown, Undecided, Feeds, Sits, Answered, World, standing_of}
+use Rattle.radio_core.proofs.Words.{standing_of_found, Cause, SessionIsOver, IsFarBehind, HasSatOut, HasAskedNothing, HasSentNothing, IsKilled, HisSessionIsKilled, Finishes, IsNotAccepted, StandsOn, OthersStandOn}
+use Rattle.radio_core.proofs.Words.{listener_of, seat_of, IsSound, outcome, reply_to, world_after, client_in}
 use Rattle.radio_parts_station.specs.declared.clients.ClientState.TheVariants.{Undecided as IsNew}
-use Rattle.radio_seats_rows.specs.declared.seat.Listener.{Listener}
-use Rattle.radio_seats_rows.specs.declared.seat.Seat.{Seat}
-use Rattle.radio_events.specs.declared.event.Event.{Event}
-use Rattle.radio_parts.specs.declared.outcome.Outcome.{Outcome}
-use Rattle.radio_events.specs.declared.reply.Reply.TheVariants.{Arrived, Finished}
-use Rattle.radio_parts_station.specs.declared.standing.Standing.{Standing}
-use Rattle.radio_parts_station.specs.declared.standing.Standing.TheVariants.{Unknown, Undecided, Feeds, Sits, Answered, Finished as HasFinished}
-use Rattle.radio_parts_station.specs.World.{World, standing_of, standing_of_found}
-use Rattle.radio_core.specs.Finishes.{Cause, SessionIsOver, IsFarBehind, HasSatOut, HasAskedNothing, HasSentNothing, IsKilled, HisSessionIsKilled, Finishes, IsNotAccepted}
-use Rattle.radio_core.specs.Others.{StandsOn, OthersStandOn}
-use Rattle.radio_seats_rows.specs.Seats.{listener_of, seat_of}
-use Rattle.radio_core.specs.Sound.{IsSound}
-use Rattle.radio_parts.specs.Step.{outcome, reply_to, world_after}
-use Rattle.radio_events.specs.Events.{client_in}
+use Rattle.radio_events.specs.declared.reply.Reply.TheVariants.{Finished}
+use Rattle.radio_parts_station.specs.declared.standing.Standing.TheVariants.{Finished as HasFinished}
 use Rattle.radio_core.proofs.Clients.NamedRules.{RuleNamed, DeniesIt, RefusesHim, TellsHisRule, NamesNoRule, rule_in, rule_named}
 use Rattle.radio_core.proofs.Clients.Effects.{Effect, Same, Joins, Rises, Acts, Sweeps, IsSwept, GoesOnAs, IsOut, HasDone, HasActed, effect_of}
 use Rattle.radio_core.proofs.Sessions.TickLemmas.{asking_at}

@@ -1,21 +1,10 @@
 -- why a reply names a rule
 use Rattle.std.proofs.Common.{◌≡◌, ℕ, Option, Some, None, refl}
-use Rattle.radio_policy.specs.declared.rule.Rule.{Rule}
+use Rattle.radio_core.proofs.Words.{Rule, verdict_in, client_in, Event, Reply, Deny, Nothing, Answer, Outcome, says, outcome, Way, Misplaced, IsFinished, IsDenied, IsRefused, IsAdmitted, Begins, ComesUp, Receives}
+use Rattle.radio_core.proofs.Words.{SetsTitle, TakesSeat, HandsOut, Ends, EndsAndLeaves, Leaves, GoesDown, Obeys, Shows, HasPassed, Ticks, rows_for, IsUndecided, World, standing_of, way_of}
 use Rattle.radio_policy.specs.declared.judgement.Verdict.TheVariants.{Deny as Denied}
-use Rattle.radio_policy.specs.Verdicts.{verdict_in}
-use Rattle.radio_events.specs.Events.{client_in}
-use Rattle.radio_events.specs.declared.event.Event.{Event}
-use Rattle.radio_events.specs.declared.reply.Reply.{Reply}
-use Rattle.radio_events.specs.declared.reply.Reply.TheVariants.{Deny, Finished}
-use Rattle.radio_parts_changes.specs.declared.change.Change.TheVariants.{Nothing, Answer}
-use Rattle.radio_parts.specs.declared.outcome.Outcome.{Outcome}
+use Rattle.radio_events.specs.declared.reply.Reply.TheVariants.{Finished}
 use Rattle.radio_parts_station.specs.declared.standing.Standing.TheVariants.{Finished as HasFinished}
-use Rattle.radio_parts.specs.Outcomes.{says}
-use Rattle.radio_parts.specs.Step.{outcome}
-use Rattle.radio_parts.specs.Ways.{Way, Misplaced, IsFinished, IsDenied, IsRefused, IsAdmitted, Begins, ComesUp, Receives, SetsTitle, TakesSeat, HandsOut, Ends}
-use Rattle.radio_parts.specs.Ways.{EndsAndLeaves, Leaves, GoesDown, Obeys, Shows, HasPassed, Ticks, rows_for, IsUndecided}
-use Rattle.radio_parts_station.specs.World.{World, standing_of}
-use Rattle.radio_parts.proofs.Ways.{way_of}
 
 -- the rule that a reply names
 abbrev pub rule_in : Reply → Option Rule

@@ -1,54 +1,22 @@
 -- how each client fares where a command is done
 use Rattle.std.proofs.Common.{◌≡◌, true, false, ℕ, ◌==◌, Option, Some, None, is_some, List, refl, ap, sym, subst, ◌∙◌, arith}
-use Rattle.std.specs.Str.{bytes_eq}
-use Rattle.std.proofs.lemmas.Bool.Decides.{nat_tests}
-use Rattle.std.proofs.lemmas.Slice.Eq.{bytes_eq-Decides}
-use Rattle.radio_policy.specs.declared.rule.Rule.TheVariants.{Killed, SourceKilled}
-use Rattle.radio_policy.specs.Table.{row}
-use Rattle.radio_tables.proofs.FindLaws.{find_same, find_apart}
-use Rattle.radio_tables.proofs.KeyLaws.{by_number}
-use Rattle.radio_seats_rows.specs.declared.seat.Listener.{Listener}
-use Rattle.radio_seats_rows.specs.declared.seat.Seat.{Seat}
-use Rattle.radio_seats_rows.specs.declared.seat.Seating.{Seating}
+use Rattle.radio_core.proofs.Words.{bytes_eq, nat_tests, bytes_eq-Decides, Killed, SourceKilled, row, find_same, find_apart, by_number, Listener, Seat, Seating, is_listener, listener_of, seat_of, seat_in, seat_held}
+use Rattle.radio_core.proofs.Words.{loses, lost_by, AreByNumber, To, at_his_turn, goes_there, never_out_there, Command, MoveClients, KillClient, KillSource, SetTitle, SetFallback, AddUser, DeleteUser, Event, Ended, Obey}
+use Rattle.radio_core.proofs.Words.{Standing, Unknown, Undecided, Feeds, Sits, Answered, Finished, answered, changed, session_over, session_ended, session_ended_by, session_killed, outsiders_ended, client_of, relay_of}
+use Rattle.radio_core.proofs.Words.{Lists, with_user_at, without_user_at, IsCommanded, ChangesUsers, Adds, Deletes, is_live, opens, sight_of, Cause, SessionIsOver, IsKilled, HisSessionIsKilled, TakesTo, ByKilling}
+use Rattle.radio_core.proofs.Words.{ByMoving, IsSent, HisSessionIsOver, IsCommandedThere, Session, session_of, IsSound, World, standing_of, standing_of_found, found_named, is_over, order_lost, heard_at, heard_cases}
 use Rattle.radio_seats_rows.specs.declared.seat.Seating.TheVariants.{Sits as HasSeat, Finished as HasLostIt}
-use Rattle.radio_seats_rows.specs.Seats.{is_listener, listener_of, seat_of, seat_in, seat_held, loses, lost_by, AreByNumber}
-use Rattle.radio_fallback.specs.declared.moves.Move.TheVariants.{Ended as SessionEnds, To}
-use Rattle.radio_fallback.specs.Carry.{at_his_turn}
-use Rattle.radio_fallback.proofs.Faring.{goes_there, never_out_there}
-use Rattle.radio_events.specs.declared.command.Command.{Command}
-use Rattle.radio_events.specs.declared.command.Command.TheVariants.{MoveClients, KillClient, KillSource, SetTitle, SetFallback, AddUser, DeleteUser}
-use Rattle.radio_events.specs.declared.event.Event.{Event}
-use Rattle.radio_parts_station.specs.declared.clients.ClientState.TheVariants.{Ended}
-use Rattle.radio_parts_changes.specs.declared.change.Change.TheVariants.{Obey}
-use Rattle.radio_parts_station.specs.declared.standing.Standing.{Standing}
-use Rattle.radio_parts_station.specs.declared.standing.Standing.TheVariants.{Unknown, Undecided, Feeds, Sits, Answered, Finished}
-use Rattle.radio_parts_changes.specs.Changes.{answered, changed, session_over, session_ended, session_ended_by, session_killed, outsiders_ended}
-use Rattle.radio_parts_station.specs.Clients.{client_of}
-use Rattle.radio_parts_station.specs.Relays.{relay_of}
-use Rattle.radio_access.specs.Lists.{Lists, with_user_at, without_user_at}
-use Rattle.radio_parts.specs.Allowed.{IsCommanded, ChangesUsers, Adds, Deletes}
+use Rattle.radio_fallback.specs.declared.moves.Move.TheVariants.{Ended as SessionEnds}
 use Rattle.radio_core.proofs.Seats.ChangedUsers.{with_lists, sound_set, users_fates}
-use Rattle.radio_parts_facts.specs.CommandFacts.{is_live, opens}
-use Rattle.radio_parts_station.specs.Facts.{sight_of}
-use Rattle.radio_core.specs.Finishes.{Cause, SessionIsOver, IsKilled, HisSessionIsKilled}
-use Rattle.radio_core.specs.Moves.{TakesTo, ByKilling, ByMoving}
-use Rattle.radio_core.specs.SeatSteps.{IsSent, HisSessionIsOver, IsCommandedThere}
-use Rattle.radio_parts_mount.specs.Sessions.{Session, session_of}
-use Rattle.radio_core.specs.Sound.{IsSound}
-use Rattle.radio_parts_station.specs.World.{World, standing_of, standing_of_found}
 use Rattle.radio_core.proofs.Commands.AllowedCommands.{may_act, may_move, needs_hold, may_go}
 use Rattle.radio_core.proofs.Seats.CommandedSeats.{found_there, killed_seat}
 use Rattle.radio_core.proofs.Clients.CarriedFates.{order_carried, carried_fate}
 use Rattle.radio_core.proofs.Clients.Fates.{IsActive, Fate, GoesOn, IsEnded, HasStopped, IsMoved, Fates, HasEnded, Nobody, sound_fates, fates_none, lost_in, active_sitter}
-use Rattle.radio_parts_mount.proofs.SessionLookups.{found_named, is_over}
-use Rattle.radio_parts_mount.proofs.NumberOrder.{order_lost}
 use Rattle.radio_core.proofs.Sound.SoundEnds.{over_fates, late_beside, still_feeds, has_none_then, order_then}
 use Rattle.radio_core.proofs.Sound.SoundTitles.{sound_titled}
 use Rattle.radio_core.proofs.Sound.Soundness.{sound_answered}
 use Rattle.radio_core.proofs.Clients.Standings.{Turns, asks, turns_answered, turns_ended_by}
-use Rattle.radio_parts_station.specs.Waiting.{heard_at}
 use Rattle.radio_core.proofs.Seats.HeardApart.{apart_sessions, apart_then}
-use Rattle.radio_parts.proofs.HeardLemmas.{heard_cases}
 
 -- whoever is moved by a command, or since its session is over, goes on in another
 abbrev pub LeavesFor : World → Event → World → Seat → Session → Type 0

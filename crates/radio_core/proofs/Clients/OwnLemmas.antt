@@ -1,11 +1,6 @@
 -- whose an event is, and what it brings
 use Rattle.std.proofs.Common.{◌≡◌, true, false, ℕ, ◌==◌, Bool, Option, Some, None, List, [], refl, ap, sym, ◌∙◌, arith}
-use Rattle.std.specs.Prelude.{if◌then◌else◌}
-use Rattle.std.proofs.lemmas.Bool.Decides.{nat_tests}
-use Rattle.radio_tables.proofs.KeyLaws.{by_number}
-use Rattle.radio_events.specs.declared.event.Event.{Event}
-use Rattle.radio_core.specs.Handing.{is_same_number, of_client}
-use Rattle.radio_events.specs.Events.{client_in}
+use Rattle.radio_core.proofs.Words.{if◌then◌else◌, nat_tests, by_number, Event, is_same_number, of_client, client_in}
 
 -- an event is of this client, or not
 pub by_own : {A : Type 0} (event : Event) (id : ℕ) → (client_in event ≡ Some id → A)

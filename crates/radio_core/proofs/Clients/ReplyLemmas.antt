@@ -1,30 +1,13 @@
 -- each reply fits the client that gets it
 use Rattle.std.proofs.Common.{◌≡◌, ℕ, ◌+◌, ◌<◌, List, Option, refl, ap, sym, ◌∙◌, arith}
-use Rattle.radio_addr.specs.declared.peer.Peer.{Peer}
+use Rattle.radio_core.proofs.Words.{Peer, Shown, Event, Arrive, Source, Listen, RelayUp, SourceRequest, ListenRequest, Outcome, Arrived, Feeding, Seated, Unknown, Undecided, Feeds, Sits, World, standing_of, changed}
+use Rattle.radio_core.proofs.Words.{shown_for, raises, first_seat, HasCome, AsClient, AsRelay, RepliesFit, IsSound, outcome, reply_to, world_after, Way, Misplaced, IsFinished, IsDenied, IsRefused, IsAdmitted, Begins}
+use Rattle.radio_core.proofs.Words.{ComesUp, Receives, SetsTitle, TakesSeat, HandsOut, Ends, EndsAndLeaves, Leaves, GoesDown, Obeys, Shows, HasPassed, Ticks, IsUndecided, way_of}
 use Rattle.radio_events.specs.declared.reply.StreamHead.{StreamHead}
-use Rattle.radio_values.specs.declared.field.Shown.{Shown}
-use Rattle.radio_events.specs.declared.event.Event.{Event}
-use Rattle.radio_events.specs.declared.event.Event.TheVariants.{Arrive, Source, Listen, RelayUp}
-use Rattle.radio_events.specs.declared.event.SourceRequest.{SourceRequest}
-use Rattle.radio_events.specs.declared.event.ListenRequest.{ListenRequest}
-use Rattle.radio_parts.specs.declared.outcome.Outcome.{Outcome}
-use Rattle.radio_events.specs.declared.reply.Reply.TheVariants.{Arrived, Feeding, Seated}
-use Rattle.radio_parts_station.specs.declared.standing.Standing.TheVariants.{Unknown, Undecided, Feeds, Sits}
-use Rattle.radio_parts_station.specs.World.{World, standing_of}
-use Rattle.radio_parts_changes.specs.Changes.{changed}
 use Rattle.radio_parts.specs.Arrive.{admits_client}
-use Rattle.radio_parts_station.specs.Streams.{shown_for}
-use Rattle.radio_parts.specs.RelayUp.{raises}
-use Rattle.radio_parts.specs.Listen.{first_seat}
-use Rattle.radio_core.specs.Others.{HasCome, AsClient, AsRelay, RepliesFit}
-use Rattle.radio_core.specs.Sound.{IsSound}
-use Rattle.radio_parts.specs.Step.{outcome, reply_to, world_after}
-use Rattle.radio_parts.specs.Ways.{Way, Misplaced, IsFinished, IsDenied, IsRefused, IsAdmitted, Begins, ComesUp, Receives, SetsTitle, TakesSeat, HandsOut, Ends}
-use Rattle.radio_parts.specs.Ways.{EndsAndLeaves, Leaves, GoesDown, Obeys, Shows, HasPassed, Ticks, IsUndecided}
 use Rattle.radio_core.proofs.Clients.FinishLemmas.{finished_told}
 use Rattle.radio_core.proofs.Clients.CalledHome.{turns_up, turns_risen}
 use Rattle.radio_core.proofs.Clients.Standings.{asks, turns_sitting, turns_admitted}
-use Rattle.radio_parts.proofs.Ways.{way_of}
 
 -- by which event a number was given, where this is the state after it
 data Came (w later : World) (id : ℕ) : Event → Type 0 where

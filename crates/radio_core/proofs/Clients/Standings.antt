@@ -1,34 +1,16 @@
 -- the standings of clients and relays after each change
 use Rattle.std.proofs.Common.{◌≡◌, true, false, ℕ, ◌==◌, Option, Some, None, is_some, List, refl, ap, sym, ◌∙◌, arith}
-use Rattle.std.proofs.lemmas.Bool.Decides.{nat_tests}
-use Rattle.radio_policy.specs.declared.rule.Rule.{Rule}
-use Rattle.radio_addr.specs.declared.peer.Peer.{Peer}
-use Rattle.radio_values.specs.declared.field.Shown.{Shown}
-use Rattle.radio_tables.proofs.KeyLaws.{by_number}
-use Rattle.radio_parts_station.specs.declared.clients.ClientState.{ClientState}
-use Rattle.radio_parts_station.specs.declared.clients.ClientState.TheVariants.{Undecided, Feeds, Listens, Answered, Ended}
-use Rattle.radio_parts_changes.specs.declared.change.Change.TheVariants.{Answer, Admit, TakeSeat, Advance, Forget}
-use Rattle.radio_seats_rows.specs.declared.seat.Listener.{Listener}
-use Rattle.radio_seats_rows.specs.declared.seat.Seat.{Seat}
-use Rattle.radio_seats_rows.specs.declared.seat.Seating.{Seating}
+use Rattle.radio_core.proofs.Words.{nat_tests, Rule, Peer, Shown, by_number, ClientState, Listens, Ended, Answer, Admit, TakeSeat, Advance, Forget, Listener, Seat, Seating, Standing, Unknown, Sits, Finished, Client}
+use Rattle.radio_core.proofs.Words.{client_of, in_state, with_client_state, Relay, relay_of, risen, relay_ended, listener_of, advanced, heard_to, hears_session, in_session_at, with_session_at, World, standing_of}
+use Rattle.radio_core.proofs.Words.{standing_of_found, standing_of_client, standing_seated, standing_of_listener, standing_relayed, standing_of_relay, has_relay, world, changed, begun, raised, finished_in, beside_moved}
+use Rattle.radio_core.proofs.Words.{beside_left, beside_seated, has_moved, is_no_listener, has_sat_down, beside_state, beside_forgotten, does, still_none, is_no_client, is_new_client, beside_new, relay_beside_ended}
+use Rattle.radio_core.proofs.Words.{relay_beside_gone, is_ended_relay, is_no_relay, is_new_relay, beside_new_relay, listener_hearing, option_map, StationState}
+use Rattle.radio_parts_station.specs.declared.clients.ClientState.TheVariants.{Undecided, Feeds, Answered}
 use Rattle.radio_seats_rows.specs.declared.seat.Seating.TheVariants.{Sits as HasSeat, Finished as HasFinished}
-use Rattle.radio_parts_station.specs.declared.standing.Standing.{Standing}
-use Rattle.radio_parts_station.specs.declared.standing.Standing.TheVariants.{Unknown, Undecided as IsUndecided, Feeds as IsFeeding, Sits}
-use Rattle.radio_parts_station.specs.declared.standing.Standing.TheVariants.{Answered as IsAnswered, Finished}
+use Rattle.radio_parts_station.specs.declared.standing.Standing.TheVariants.{Undecided as IsUndecided, Feeds as IsFeeding}
+use Rattle.radio_parts_station.specs.declared.standing.Standing.TheVariants.{Answered as IsAnswered}
 use Rattle.radio_parts_station.specs.declared.relays.RelayState.{RelayState}
 use Rattle.radio_parts_station.specs.declared.relays.RelayState.TheVariants.{Feeds as RelayFeeds, Ended as RelayEnded}
-use Rattle.radio_parts_station.specs.Clients.{Client, client_of, in_state, with_client_state}
-use Rattle.radio_parts_station.specs.Relays.{Relay, relay_of, risen, relay_ended}
-use Rattle.radio_seats_rows.specs.Seats.{listener_of, advanced, heard_to, hears_session, in_session_at, with_session_at}
-use Rattle.radio_parts_station.specs.World.{World, standing_of, standing_of_found, standing_of_client, standing_seated, standing_of_listener, standing_relayed, standing_of_relay, has_relay, world}
-use Rattle.radio_parts_changes.specs.Changes.{changed}
-use Rattle.radio_parts_station.specs.StationChanges.{begun, raised, finished_in}
-use Rattle.radio_seats_rows.proofs.SeatLaws.{beside_moved, beside_left, beside_seated, has_moved, is_no_listener, has_sat_down}
-use Rattle.radio_parts_station.proofs.Lookups.{beside_state, beside_forgotten, does, still_none, is_no_client, is_new_client, beside_new}
-use Rattle.radio_parts_station.proofs.Lookups.{relay_beside_ended, relay_beside_gone, is_ended_relay, is_no_relay, is_new_relay, beside_new_relay}
-use Rattle.radio_seats_rows.proofs.GivenLaws.{listener_hearing}
-use Rattle.std.specs.Option.{option_map}
-use Rattle.radio_parts_station.specs.StationState.{StationState}
 
 -- one client has this standing from now on, and the others keep theirs
 pub record Turns (w later : World) (him : ℕ) (now : Standing) : Type 0 where

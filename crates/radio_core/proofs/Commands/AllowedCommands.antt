@@ -1,17 +1,7 @@
 -- what the rows of a command say that the policy allows
 use Rattle.std.proofs.Common.{◌≡◌, ◌∙◌, Bool, true, false, List, [], ◌∷◌, refl, ap, sym}
-use Rattle.std.specs.Prelude.{not}
-use Rattle.radio_policy.specs.declared.judgement.Verdict.TheVariants.{Allow}
-use Rattle.radio_policy.specs.declared.rule.Rule.{Rule}
-use Rattle.radio_policy.specs.declared.rule.Rule.TheVariants.{NoMount, NoDestination, SameMount, NoClient, NoUsers, NoUser}
-use Rattle.radio_policy.specs.Table.{Row, row, needs_rows, password_rule, command_rows}
-use Rattle.radio_policy.specs.Verdicts.{verdict_in}
-use Rattle.radio_events.specs.declared.command.Asked.{Asked}
-use Rattle.radio_events.specs.declared.command.Command.{Command}
-use Rattle.radio_events.specs.declared.event.Event.{Event}
-use Rattle.radio_parts.specs.Allowed.{IsCommanded}
-use Rattle.radio_parts_facts.specs.CommandFacts.{facts_asked, needs_of, opened_by, opener_in, opens}
-use Rattle.radio_parts_station.specs.World.{World}
+use Rattle.radio_core.proofs.Words.{not, Allow, Rule, NoMount, NoDestination, SameMount, NoClient, NoUsers, NoUser, Row, row, needs_rows, password_rule, command_rows, verdict_in, Asked, Command, Event, IsCommanded}
+use Rattle.radio_core.proofs.Words.{facts_asked, needs_of, opened_by, opener_in, opens, World}
 
 -- a pair that opens it was sent, and the rows behind allow it
 pub past_sent : (rule : Rule) (sent : Bool) (rows : List Row) → verdict_in (row rule (not sent) ∷ rows) ≡ Allow → (sent ≡ true) × (verdict_in rows ≡ Allow)

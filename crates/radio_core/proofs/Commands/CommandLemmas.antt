@@ -1,11 +1,6 @@
 -- what commands change
 use Rattle.std.proofs.Common.{◌≡◌, ℕ, Option, None, Some, refl}
-use Rattle.radio_events.specs.declared.command.Command.{Command}
-use Rattle.radio_events.specs.declared.command.Command.TheVariants.{MoveClients, KillClient, KillSource, SetTitle, SetFallback, AddUser, DeleteUser}
-use Rattle.radio_parts_changes.specs.declared.change.Change.TheVariants.{Obey}
-use Rattle.radio_parts_changes.specs.Changes.{answered, changed, session_killed}
-use Rattle.radio_parts_mount.specs.Sessions.{Session, session_of}
-use Rattle.radio_parts_station.specs.World.{World}
+use Rattle.radio_core.proofs.Words.{Command, MoveClients, KillClient, KillSource, SetTitle, SetFallback, AddUser, DeleteUser, Obey, answered, changed, session_killed, Session, session_of, World}
 
 -- no command changes the settings
 killed_keeps : (w : World) (found : Option Session) → (session_killed w found).station.settings ≡ w.station.settings

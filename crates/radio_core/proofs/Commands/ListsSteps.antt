@@ -1,26 +1,11 @@
 -- what an event does to the lists of who is let in
 use Rattle.std.proofs.Common.{◌≡◌, ◌+◌, ap, sym, subst}
-use Rattle.radio_access.specs.Lists.{Lists}
-use Rattle.radio_events.specs.declared.command.Command.{Command}
-use Rattle.radio_events.specs.declared.command.Command.TheVariants.{MoveClients, KillClient, KillSource, SetTitle, SetFallback, AddUser, DeleteUser}
-use Rattle.radio_events.specs.declared.event.Event.{Event}
-use Rattle.radio_parts_changes.specs.declared.change.Change.TheVariants.{Obey}
-use Rattle.radio_parts.specs.declared.outcome.Outcome.{Outcome}
-use Rattle.radio_parts_station.specs.StationState.{StationState}
-use Rattle.radio_parts_station.specs.Streams.{shown_for}
-use Rattle.radio_parts_station.specs.World.{World}
-use Rattle.radio_parts_mount.specs.Sessions.{session_of}
-use Rattle.radio_parts.specs.Allowed.{IsCommanded}
-use Rattle.radio_parts_changes.specs.Changes.{answered, changed, session_begun, session_raised}
+use Rattle.radio_core.proofs.Words.{Lists, Command, MoveClients, KillClient, KillSource, SetTitle, SetFallback, AddUser, DeleteUser, Event, Obey, Outcome, StationState, shown_for, World, session_of, IsCommanded}
+use Rattle.radio_core.proofs.Words.{answered, changed, session_begun, session_raised, IsSound, outcome, world_after, Way, Misplaced, IsFinished, IsDenied, IsRefused, IsAdmitted, Begins, ComesUp, Receives, SetsTitle}
+use Rattle.radio_core.proofs.Words.{TakesSeat, HandsOut, Ends, EndsAndLeaves, Leaves, GoesDown, Obeys, Shows, HasPassed, Ticks, station_called, way_of}
 use Rattle.radio_core.specs.ListsSteps.{ListsStep, Stay, IsAdded, IsDeleted, ListsAreStepped}
-use Rattle.radio_core.specs.Sound.{IsSound}
-use Rattle.radio_parts.specs.Step.{outcome, world_after}
-use Rattle.radio_parts.specs.Ways.{Way, Misplaced, IsFinished, IsDenied, IsRefused, IsAdmitted, Begins, ComesUp, Receives, SetsTitle, TakesSeat, HandsOut, Ends}
-use Rattle.radio_parts.specs.Ways.{EndsAndLeaves, Leaves, GoesDown, Obeys, Shows, HasPassed, Ticks}
-use Rattle.radio_parts.proofs.CalledStation.{station_called}
 use Rattle.radio_core.proofs.Commands.CommandLemmas.{killed_lists}
 use Rattle.radio_core.proofs.Sessions.TickLemmas.{ticked_fates}
-use Rattle.radio_parts.proofs.Ways.{way_of}
 
 module _ (w : World) (s : IsSound w) where
   -- they stay as they are

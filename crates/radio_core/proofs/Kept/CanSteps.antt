@@ -1,15 +1,9 @@
 -- the conditions of a step hold in each state that a core represents, and for each event that takes no memory
 use Rattle.std.proofs.Common.{◌≡◌, ℕ, Option, Some, None, refl}
-use Rattle.radio_events.specs.declared.event.Event.{Event}
-use Rattle.radio_events.specs.declared.event.Event.TheVariants.{Arrive, Source, Push, SourceEnd, Title, Listen, Draw, Command, Leave}
-use Rattle.radio_events.specs.declared.event.Event.TheVariants.{RelayUp, RelayDown, Clock}
-use Rattle.radio_parts_station.specs.World.{World}
+use Rattle.radio_core.proofs.Words.{Event, Arrive, Source, Push, SourceEnd, Title, Listen, Draw, Leave, RelayUp, RelayDown, Clock, World, Session, session_of, Seat, seat_of, StandsForSome}
+use Rattle.radio_events.specs.declared.event.Event.TheVariants.{Command}
 use Rattle.radio_parts_mount.specs.Steps.{IsKept}
-use Rattle.radio_parts_mount.specs.Sessions.{Session, session_of}
-use Rattle.radio_seats_rows.specs.declared.seat.Seat.{Seat}
-use Rattle.radio_seats_rows.specs.Seats.{seat_of}
 use Rattle.radio_parts.specs.CanStep.{MayDraw, CanStep}
-use Rattle.radio_core.specs.Represents.{StandsForSome}
 use Rattle.radio_core.proofs.Kept.StepLemmas.{place_is_kept, seat_sits}
 
 can_draw : (w : World) → StandsForSome w → (id : ℕ) → MayDraw w id

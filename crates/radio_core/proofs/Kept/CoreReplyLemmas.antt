@@ -1,21 +1,8 @@
 -- cores give the replies of the states that they represent
 use Rattle.std.proofs.Common.{◌≡◌, ℕ, ◌+◌, Option, Some, None, List, length, refl, ap, sym, ◌∙◌}
-use Rattle.std.specs.Prelude.{nat_lt}
-use Rattle.std.specs.Option.{option_map}
-use Rattle.radio_tables.specs.Lists.{Each}
-use Rattle.radio_tables.proofs.FindLaws.{found_has}
-use Rattle.radio_parts_station.specs.declared.standing.Standing.{Standing}
-use Rattle.radio_parts_station.specs.declared.standing.Standing.TheVariants.{Unknown, Undecided, Feeds, Sits, Answered, Finished}
+use Rattle.radio_core.proofs.Words.{nat_lt, option_map, Each, found_has, Standing, Unknown, Undecided, Feeds, Sits, Answered, Finished, largest_number, kept_session, kept_of, Session, is_of, session_of, HasRisingStarts}
+use Rattle.radio_core.proofs.Words.{to_data, to_data_from, to_session, to_end, unless_spent, Represents, World, standing_of, kept_found, kept_end}
 use Rattle.radio_core.specs.CoreReplies.{CoresGoByTheirStates}
-use Rattle.radio_parts_station.specs.Facts.{largest_number}
-use Rattle.radio_parts_mount.specs.Kept.{kept_session}
-use Rattle.radio_core.specs.Kept.{kept_of}
-use Rattle.radio_parts_mount.specs.Sessions.{Session, is_of, session_of, HasRisingStarts}
-use Rattle.radio_core.specs.SourceReplies.{to_data, to_data_from, to_session, to_end, unless_spent}
-use Rattle.radio_core.specs.Represents.{Represents}
-use Rattle.radio_parts_station.specs.World.{World, standing_of}
-use Rattle.radio_parts_mount.proofs.KeptLists.{kept_found}
-use Rattle.radio_parts_mount.proofs.KeptStreams.{kept_end}
 
 module _ (w : World) (rise : Each HasRisingStarts w.station.live) (bytes : List ℕ) where
   abbrev queue : ℕ

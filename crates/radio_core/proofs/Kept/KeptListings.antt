@@ -1,22 +1,15 @@
 -- what is shown of the station, where streams are kept as far as a queue is long
 use Rattle.std.proofs.Common.{◌≡◌, List, [], ◌∷◌, refl, ap}
-use Rattle.std.specs.Prelude.{map, length}
-use Rattle.radio_events.specs.declared.command.Listing.{Listing}
-use Rattle.radio_events.specs.declared.command.Listing.TheVariants.{Status, Stats, Mounts, Clients, Streams}
+use Rattle.radio_core.proofs.Words.{map, length, Listing, Status, Stats, Mounts, Clients, Streams, kept_live, kept_of, WebPath, Session, World}
 use Rattle.radio_events.specs.declared.text.ReplyText.TheVariants.{Json, Streams as StreamList, Public}
 use Rattle.radio_listing.specs.declared.rows.MountRow.{MountRow}
 use Rattle.radio_listing.specs.Admin.{stats_text, mounts_text}
 use Rattle.radio_listing.specs.Public.{status_text, stream_text}
-use Rattle.radio_parts_mount.specs.Kept.{kept_live}
-use Rattle.radio_core.specs.Kept.{kept_of}
 use Rattle.radio_parts_facts.specs.Listings.{shown, row_of_session, mount_rows}
 use Rattle.radio_parts_facts.specs.Pages.{page_at, server_as}
-use Rattle.radio_settings_values.specs.declared.web.WebPath.{WebPath}
 use Rattle.radio_settings_values.specs.declared.web.WebPath.TheVariants.{IcecastStatus, Page as AtPage}
 use Rattle.radio_listing.specs.Icecast.{icecast_text}
 use Rattle.radio_events.specs.declared.event.PageVisit.{PageVisit}
-use Rattle.radio_parts_mount.specs.Sessions.{Session}
-use Rattle.radio_parts_station.specs.World.{World}
 
 module _ (w : World) where
   rows_of : (live : List Session) → map (row_of_session (kept_of w)) (kept_live w.station.settings.limits.queue_size live) ≡ map (row_of_session w) live

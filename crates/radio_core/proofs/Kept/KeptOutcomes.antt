@@ -1,77 +1,37 @@
 -- what comes of an event is the same where only a queue is kept of each stream
 use Rattle.std.proofs.Common.{◌≡◌, Bool, ℕ, ◌+◌, ◌==◌, ◌||◌, Option, Some, None, is_some, List, length, refl, ap, sym, ◌∙◌, arith, subst}
-use Rattle.std.proofs.Math.Path.{fun_ext}
-use Rattle.std.specs.Prelude.{nat_lt, if◌then◌else◌}
-use Rattle.std.specs.Option.{option_map}
-use Rattle.std.specs.Str.{bytes_eq}
-use Rattle.std.proofs.lemmas.List.{length-map}
+use Rattle.radio_core.proofs.Words.{fun_ext, nat_lt, if◌then◌else◌, option_map, bytes_eq, length-map, source_rows, relay_rows, push_rows, listen_rows, command_rows, verdict_in, Peer, Each, found_has, Seat, seat_of}
+use Rattle.radio_core.proofs.Words.{Sight, found_at, landing, stop_in, SourceRequest, ListenRequest, Event, Arrive, Source, Push, SourceEnd, Title, Listen, Draw, Leave, RelayUp, RelayDown, Clock, Shown, StationState}
+use Rattle.radio_core.proofs.Words.{Nothing, Answer, TakeSeat, Advance, Obey, Outcome, Seated, Drawn, Asked, MoveClients, KillClient, KillSource, SetTitle, SetFallback, AddUser, DeleteUser, Listing, Status, Stats}
+use Rattle.radio_core.proofs.Words.{Mounts, Clients, Streams, To, carried, is_listener_at, needs_of, facts_for, facts_asked, access_to, needs_to_list, opened_by, rows_to_command, counts_by, Lands, Stops, largest_number}
+use Rattle.radio_core.proofs.Words.{is_limit_reached, is_in_settings, sight_of, walks_to, source_facts, relay_facts, listen_facts, names_mount, kept_session, kept_of, burst_of, head_of, interval_for, first_seat}
+use Rattle.radio_core.proofs.Words.{takes_seat, sits_where, says, on_verdict, if_undecided, if_feeding, if_sitting, takes_in, Session, is_of, session_of, HasRisingStarts, raises, SeatsAreKept, outcome, World}
+use Rattle.radio_core.proofs.Words.{standing_of, kept_data, kept_burst, kept_ends, WebPath, heard_at, heard_cases}
 use Rattle.radio_policy.specs.declared.facts.SourceFacts.{SourceFacts}
 use Rattle.radio_policy.specs.declared.facts.RelayFacts.{RelayFacts}
 use Rattle.radio_policy.specs.declared.facts.ListenFacts.{ListenFacts}
 use Rattle.radio_policy.specs.declared.facts.CommandFacts.{CommandFacts}
 use Rattle.radio_policy.specs.declared.facts.CommandNeeds.{CommandNeeds}
 use Rattle.radio_policy.specs.declared.facts.CommandNeeds.TheVariants.{Mount as MountNeeds, Destination, Client as ClientNeeds}
-use Rattle.radio_policy.specs.Table.{source_rows, relay_rows, push_rows, listen_rows, command_rows}
-use Rattle.radio_policy.specs.Verdicts.{verdict_in}
-use Rattle.radio_addr.specs.declared.peer.Peer.{Peer}
 use Rattle.radio_access.specs.ContentTypes.{is_refused_type}
 use Rattle.radio_access.specs.SourcePair.{is_source_pair}
-use Rattle.radio_tables.specs.Lists.{Each}
-use Rattle.radio_tables.proofs.FindLaws.{found_has}
-use Rattle.radio_seats_rows.specs.declared.seat.Seat.{Seat}
-use Rattle.radio_seats_rows.specs.Seats.{seat_of}
-use Rattle.radio_fallback.specs.Walk.{Sight, found_at, landing, stop_in}
-use Rattle.radio_events.specs.declared.event.SourceRequest.{SourceRequest}
-use Rattle.radio_events.specs.declared.event.ListenRequest.{ListenRequest}
-use Rattle.radio_events.specs.declared.event.Event.{Event}
-use Rattle.radio_events.specs.declared.event.Event.TheVariants.{Arrive, Source, Push, SourceEnd, Title, Listen, Draw, Command, Leave}
-use Rattle.radio_events.specs.declared.event.Event.TheVariants.{RelayUp, RelayDown, Clock}
-use Rattle.radio_values.specs.declared.field.Shown.{Shown}
-use Rattle.radio_parts_station.specs.StationState.{StationState}
-use Rattle.radio_parts_changes.specs.declared.change.Change.TheVariants.{Nothing, Answer, TakeSeat, Advance, Obey}
-use Rattle.radio_parts.specs.declared.outcome.Outcome.{Outcome}
-use Rattle.radio_events.specs.declared.reply.Reply.TheVariants.{Seated, Drawn, Text as SaysText}
+use Rattle.radio_events.specs.declared.event.Event.TheVariants.{Command}
+use Rattle.radio_events.specs.declared.reply.Reply.TheVariants.{Text as SaysText}
 use Rattle.radio_creds.specs.Credentials.{Credentials}
-use Rattle.radio_events.specs.declared.command.Asked.{Asked}
 use Rattle.radio_events.specs.declared.command.Asked.TheVariants.{NoCommand, MissingArgument, Listing as AsksFor, Command as Asks}
 use Rattle.radio_events.specs.declared.command.Command.{Command as TheCommand}
-use Rattle.radio_events.specs.declared.command.Command.TheVariants.{MoveClients, KillClient, KillSource, SetTitle, SetFallback, AddUser, DeleteUser}
 use Rattle.radio_events.specs.declared.command.CommandRequest.{CommandRequest}
-use Rattle.radio_events.specs.declared.command.Listing.{Listing}
-use Rattle.radio_events.specs.declared.command.Listing.TheVariants.{Status, Stats, Mounts, Clients, Streams}
 use Rattle.radio_events.specs.declared.text.ReplyText.{ReplyText}
 use Rattle.radio_fallback.specs.declared.moves.Carried.{Carried}
-use Rattle.radio_fallback.specs.declared.moves.Move.TheVariants.{To}
-use Rattle.radio_fallback.specs.Carry.{carried}
 use Rattle.radio_parts.specs.Command.{said_of, does_asked, command_outcome}
-use Rattle.radio_parts_facts.specs.CommandFacts.{is_listener_at, needs_of, facts_for, facts_asked, access_to, needs_to_list, opened_by, rows_to_command}
-use Rattle.radio_parts_changes.specs.Counts.{counts_by}
 use Rattle.radio_parts.specs.Draw.{hands_out}
 use Rattle.radio_parts.proofs.DrawLemmas.{hands_out_at, draws_so}
 use Rattle.radio_fallback.specs.declared.walking.Landing.{Landing}
-use Rattle.radio_fallback.specs.declared.walking.Landing.TheVariants.{Lands, Stops}
-use Rattle.radio_parts_station.specs.Facts.{largest_number, is_limit_reached, is_in_settings, sight_of, walks_to, source_facts, relay_facts, listen_facts, names_mount}
-use Rattle.radio_parts_mount.specs.Kept.{kept_session}
-use Rattle.radio_core.specs.Kept.{kept_of}
-use Rattle.radio_parts_facts.specs.Streams.{burst_of, head_of, interval_for}
-use Rattle.radio_parts.specs.Listen.{first_seat, takes_seat, sits_where}
-use Rattle.radio_parts.specs.Outcomes.{says, on_verdict, if_undecided, if_feeding, if_sitting}
-use Rattle.radio_parts.specs.Push.{takes_in}
-use Rattle.radio_parts_mount.specs.Sessions.{Session, is_of, session_of, HasRisingStarts}
 use Rattle.radio_parts.specs.Source.{begins}
-use Rattle.radio_parts.specs.RelayUp.{raises}
-use Rattle.radio_core.specs.StandsFor.{SeatsAreKept}
-use Rattle.radio_parts.specs.Step.{outcome}
-use Rattle.radio_parts_station.specs.World.{World, standing_of}
-use Rattle.radio_parts_mount.proofs.KeptStreams.{kept_data, kept_burst}
-use Rattle.radio_parts_mount.proofs.KeptLists.{kept_ends}
 use Rattle.radio_core.proofs.Kept.KeptSights.{has_session, same_sight, heard_kept}
 use Rattle.radio_core.proofs.Kept.KeptListings.{shown_kept, page_kept}
 use Rattle.radio_parts.specs.Pages.{asks_by}
-use Rattle.radio_settings_values.specs.declared.web.WebPath.{WebPath}
 use Rattle.radio_settings_values.specs.Web.{web_path}
-use Rattle.radio_parts_station.specs.Waiting.{heard_at}
-use Rattle.radio_parts.proofs.HeardLemmas.{heard_cases}
 
 module _ (w : World) (rise : Each HasRisingStarts w.station.live) (kept : SeatsAreKept w) where
   abbrev queue : ℕ

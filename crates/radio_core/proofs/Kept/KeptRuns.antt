@@ -1,26 +1,9 @@
 -- no seat is ever further behind than a queue is long, and no seat's place is forgotten
 use Rattle.std.proofs.Common.{◌≡◌, ℕ, ◌-◌, ◌≤◌, Option, Some, None, List, [], ◌∷◌, refl, ap, sym, subst, ◌∙◌, arith}
-use Rattle.std.specs.Option.{option_map}
-use Rattle.radio_settings_values.specs.declared.settings.Settings.{Settings}
-use Rattle.radio_access.specs.Lists.{Lists}
-use Rattle.radio_tables.specs.Lists.{Each}
-use Rattle.radio_tables.proofs.FindLaws.{found_has}
-use Rattle.radio_seats_rows.specs.declared.seat.Seat.{Seat}
-use Rattle.radio_seats_rows.specs.Seats.{seat_of, AreByNumber}
-use Rattle.radio_events.specs.declared.event.Event.{Event}
-use Rattle.radio_parts_changes.specs.Changes.{changed}
-use Rattle.radio_parts_mount.specs.Kept.{first_start, kept_from, kept_session, kept_live}
-use Rattle.radio_core.specs.Lagging.{EachSeat, NobodyLags}
-use Rattle.radio_core.specs.Run.{world_after_all, run_after}
-use Rattle.radio_parts_mount.specs.Sessions.{Session, is_of, session_of, HasRisingStarts}
-use Rattle.radio_core.specs.Sound.{IsSound}
-use Rattle.radio_core.specs.StandsFor.{SeatsAreKept}
-use Rattle.radio_parts.specs.Step.{outcome, world_after}
-use Rattle.radio_parts_mount.specs.Stream.{end_of}
-use Rattle.radio_parts_station.specs.World.{World, opening}
-use Rattle.radio_parts_mount.proofs.KeptLists.{kept_found}
+use Rattle.radio_core.proofs.Words.{option_map, Settings, Lists, Each, found_has, Seat, seat_of, AreByNumber, Event, changed, first_start, kept_from, kept_session, kept_live, EachSeat, NobodyLags, world_after_all}
+use Rattle.radio_core.proofs.Words.{run_after, Session, is_of, session_of, HasRisingStarts, IsSound, SeatsAreKept, outcome, world_after, end_of, World, opening, kept_found, kept_end, kept_within, kept_still}
+use Rattle.radio_core.proofs.Words.{burst_is_kept, burst_is_near}
 use Rattle.radio_core.proofs.Kept.KeptSeats.{HoldsOn, each_after, settings_stay}
-use Rattle.radio_parts_mount.proofs.KeptStreams.{kept_end, kept_within, kept_still, burst_is_kept, burst_is_near}
 use Rattle.radio_core.proofs.Sound.SoundRuns.{sound_after, sound_opening}
 
 module _ (w : World) where

@@ -1,70 +1,27 @@
 -- what holds of each seat's place in the stream of its session holds still after each event
 use Rattle.std.proofs.Common.{◌≡◌, ◌⊎◌, inl, inr, Bool, true, false, ℕ, ◌+◌, ◌-◌, ◌≤◌, ◌==◌, Option, Some, None, List, [], ◌∷◌, length, refl, ap, sym}
 use Rattle.std.proofs.Common.{subst, ◌∙◌, arith}
-use Rattle.std.specs.Prelude.{◌&&◌, nat_lt, if◌then◌else◌, fold}
-use Rattle.std.specs.Option.{option_map}
-use Rattle.std.specs.Str.{bytes_eq}
-use Rattle.std.proofs.lemmas.Bool.{ltb-false}
-use Rattle.std.proofs.lemmas.Bool.Decides.{nat_tests}
-use Rattle.std.proofs.lemmas.Slice.Eq.{bytes_eq-Decides}
-use Rattle.radio_policy.specs.declared.rule.Rule.{Rule}
-use Rattle.radio_policy.specs.declared.rule.Rule.TheVariants.{Lagged, TimeOver, Killed, ListenerPassword}
-use Rattle.radio_addr.specs.declared.peer.Peer.{Peer}
-use Rattle.radio_values.specs.declared.field.Shown.{Shown}
-use Rattle.radio_tables.proofs.FindLaws.{find_here, find_later, find_apart}
-use Rattle.radio_tables.proofs.KeyLaws.{by_number, by_name}
-use Rattle.radio_seats_rows.specs.declared.seat.Listener.{Listener}
-use Rattle.radio_seats_rows.specs.declared.seat.Seat.{Seat}
-use Rattle.radio_seats_rows.specs.declared.seat.Seating.{Seating}
+use Rattle.radio_core.proofs.Words.{◌&&◌, nat_lt, if◌then◌else◌, fold, option_map, bytes_eq, ltb-false, nat_tests, bytes_eq-Decides, Rule, Lagged, TimeOver, Killed, ListenerPassword, Peer, Shown, find_here, find_later}
+use Rattle.radio_core.proofs.Words.{find_apart, by_number, by_name, Listener, Seat, Seating, had_seat, kept_seat, is_listener, listener_of, seat_held, loses, lost_by, with_end, seat_of, seat_in, with_seat, with_place}
+use Rattle.radio_core.proofs.Words.{without_listener, AreByNumber, with_session_at, beside_moved, beside_left, beside_seated, is_no_listener, has_sat_down, has_heard, Command, MoveClients, KillClient, KillSource}
+use Rattle.radio_core.proofs.Words.{SetFallback, AddUser, DeleteUser, Event, ListenRequest, Receive, TakeSeat, Advance, End, EndAndLeave, Forget, Obey, Outcome, options_for, Move, Up, To, seat_at_end, Faring, HasStayed}
+use Rattle.radio_core.proofs.Words.{HasGone, HasLost, fares, StationState, Lists, with_user_at, without_user_at, is_shut_out, answered, outsiders_ended, session_killed, changed, carried_along, session_over}
+use Rattle.radio_core.proofs.Words.{session_ended, called_home, session_begun, session_raised, is_on_air, is_taken_in, begun, raised, received, before_silence, session_silenced, silent_in, ticked, laggards_ended}
+use Rattle.radio_core.proofs.Words.{live_end, sight_of, EachSeat, burst_of, first_seat, Session, session_of, opened, with_session, longer, with_title, shown_for, outcome, WholeStream, no_data, end_of, with_block}
+use Rattle.radio_core.proofs.Words.{burst_start, data_at, lags_behind, has_sat_out, Way, Misplaced, IsFinished, IsDenied, IsRefused, IsAdmitted, Begins, ComesUp, Receives, SetsTitle, TakesSeat, HandsOut, Ends}
+use Rattle.radio_core.proofs.Words.{EndsAndLeaves, Leaves, GoesDown, Obeys, Shows, HasPassed, Ticks, World, world, station_called, beside_fed, beside_titled, beside_begun, is_new_session, order_ended, same_order, way_of}
+use Rattle.radio_core.proofs.Words.{heard_at, heard_live, bytes_apart, numbers_hearing}
 use Rattle.radio_seats_rows.specs.declared.seat.Seating.TheVariants.{Sits as HasSeat, Finished as HasFinished}
-use Rattle.radio_seats_rows.proofs.EndLaws.{had_seat, kept_seat}
-use Rattle.radio_seats_rows.specs.Seats.{is_listener, listener_of, seat_held, loses, lost_by, with_end, seat_of, seat_in, with_seat, with_place, without_listener, AreByNumber, with_session_at}
-use Rattle.radio_seats_rows.proofs.SeatLaws.{beside_moved, beside_left, beside_seated, is_no_listener, has_sat_down, has_heard}
-use Rattle.radio_events.specs.declared.command.Command.{Command}
-use Rattle.radio_events.specs.declared.command.Command.TheVariants.{MoveClients, KillClient, KillSource, SetTitle as NewTitle, SetFallback, AddUser, DeleteUser}
-use Rattle.radio_events.specs.declared.event.Event.{Event}
-use Rattle.radio_events.specs.declared.event.ListenRequest.{ListenRequest}
-use Rattle.radio_parts_changes.specs.declared.change.Change.TheVariants.{Receive, SetTitle, TakeSeat, Advance, End, EndAndLeave, Forget, Obey}
-use Rattle.radio_parts.specs.declared.outcome.Outcome.{Outcome}
-use Rattle.radio_settings_values.specs.Options.{options_for}
-use Rattle.radio_fallback.specs.declared.moves.Move.{Move}
-use Rattle.radio_fallback.specs.declared.moves.Move.TheVariants.{Ended as SessionEnds, Up, To}
-use Rattle.radio_fallback.specs.Fares.{seat_at_end}
-use Rattle.radio_fallback.proofs.Faring.{Faring, HasStayed, HasGone, HasLost, fares}
-use Rattle.radio_parts_station.specs.StationState.{StationState}
-use Rattle.radio_access.specs.Lists.{Lists, with_user_at, without_user_at}
-use Rattle.radio_parts_station.specs.Outsiders.{is_shut_out}
-use Rattle.radio_parts_changes.specs.Changes.{answered, outsiders_ended, session_killed, changed, carried_along, session_over, session_ended, called_home, session_begun, session_raised}
-use Rattle.radio_parts_changes.proofs.PartChanges.{is_on_air, is_taken_in}
-use Rattle.radio_parts_station.specs.StationChanges.{begun, raised, received}
-use Rattle.radio_parts_changes.specs.Changes.{before_silence, session_silenced, silent_in, ticked, laggards_ended}
-use Rattle.radio_parts_station.specs.Facts.{live_end, sight_of}
-use Rattle.radio_core.specs.Lagging.{EachSeat}
-use Rattle.radio_parts_facts.specs.Streams.{burst_of}
-use Rattle.radio_parts.specs.Listen.{first_seat}
-use Rattle.radio_parts_mount.specs.Sessions.{Session, session_of, opened, with_session, longer, with_title}
-use Rattle.radio_parts_station.specs.Streams.{shown_for}
-use Rattle.radio_parts.specs.Step.{outcome}
-use Rattle.radio_parts_mount.specs.Stream.{WholeStream, no_data, end_of, with_block, burst_start, data_at}
-use Rattle.radio_parts_mount.specs.Timeouts.{lags_behind, has_sat_out}
-use Rattle.radio_parts.specs.Ways.{Way, Misplaced, IsFinished, IsDenied, IsRefused, IsAdmitted, Begins, ComesUp, Receives, SetsTitle, TakesSeat, HandsOut, Ends}
-use Rattle.radio_parts.specs.Ways.{EndsAndLeaves, Leaves, GoesDown, Obeys, Shows, HasPassed, Ticks}
-use Rattle.radio_parts_station.specs.World.{World, world}
-use Rattle.radio_parts.proofs.CalledStation.{station_called}
+use Rattle.radio_events.specs.declared.command.Command.TheVariants.{SetTitle as NewTitle}
+use Rattle.radio_parts_changes.specs.declared.change.Change.TheVariants.{SetTitle}
+use Rattle.radio_fallback.specs.declared.moves.Move.TheVariants.{Ended as SessionEnds}
 use Rattle.radio_core.proofs.Seats.ChangedUsers.{with_lists}
 use Rattle.radio_core.proofs.Commands.CommandLemmas.{obeyed_keeps}
 use Rattle.radio_core.proofs.Clients.CarriedFates.{order_carried}
 use Rattle.radio_parts_mount.specs.StatePart.{end_in}
-use Rattle.radio_parts_mount.proofs.SessionLookups.{beside_fed, beside_titled, beside_begun, is_new_session}
-use Rattle.radio_parts_mount.proofs.NumberOrder.{order_ended, same_order}
 use Rattle.radio_core.proofs.Sound.SoundEnds.{was_live}
 use Rattle.radio_core.proofs.Sessions.UpdatedSessions.{session_updated}
-use Rattle.radio_parts.proofs.Ways.{way_of}
-use Rattle.radio_parts_station.specs.Waiting.{heard_at}
-use Rattle.radio_parts.proofs.HeardLemmas.{heard_live}
 use Rattle.radio_core.proofs.Seats.GivenSeats.{sat_elsewhere}
-use Rattle.radio_parts_mount.proofs.ApartLemmas.{bytes_apart}
-use Rattle.radio_seats_rows.proofs.GivenLaws.{numbers_hearing}
 
 -- it sits at the end of its session's stream
 abbrev pub SitsAtEnd : World → Seat → Type 0

@@ -1,24 +1,7 @@
 -- a walk sees the same, and listeners are carried along alike, where only a queue is kept of each stream
 use Rattle.std.proofs.Common.{◌≡◌, Bool, true, false, ℕ, Option, Some, None, is_some, List, refl, ap, ◌∙◌}
-use Rattle.std.proofs.Math.Path.{fun_ext}
-use Rattle.std.specs.Prelude.{if◌then◌else◌}
-use Rattle.std.specs.Option.{option_map, option_map_or, option_or}
-use Rattle.radio_settings_values.specs.Options.{options_for}
-use Rattle.radio_access.specs.Lists.{lets_in}
-use Rattle.radio_tables.specs.Lists.{Each}
-use Rattle.radio_fallback.specs.declared.moves.Move.{Move}
-use Rattle.radio_fallback.specs.declared.moves.Move.TheVariants.{Up}
-use Rattle.radio_fallback.specs.Walk.{Sight}
-use Rattle.radio_fallback.specs.Carry.{carried}
-use Rattle.radio_parts_station.specs.StationState.{StationState}
-use Rattle.radio_parts_changes.specs.Changes.{carried_along, called_home}
-use Rattle.radio_parts_station.specs.Facts.{sight_of, live_number, live_end, fallback_of}
-use Rattle.radio_parts_mount.specs.Kept.{kept_session}
-use Rattle.radio_core.specs.Kept.{kept_of}
-use Rattle.radio_parts_mount.specs.Sessions.{Session, session_of, HasRisingStarts}
-use Rattle.radio_parts_station.specs.World.{World}
-use Rattle.radio_parts_mount.proofs.KeptLists.{kept_found, kept_ends}
-use Rattle.radio_parts_station.specs.Waiting.{heard_at, is_on_demand, silence_at, silence_of}
+use Rattle.radio_core.proofs.Words.{fun_ext, if◌then◌else◌, option_map, option_map_or, option_or, options_for, lets_in, Each, Move, Up, Sight, carried, StationState, carried_along, called_home, sight_of, live_number}
+use Rattle.radio_core.proofs.Words.{live_end, fallback_of, kept_session, kept_of, Session, session_of, HasRisingStarts, World, kept_found, kept_ends, heard_at, is_on_demand, silence_at, silence_of}
 
 is_some_mapped : {A B : Type 0} (f : A → B) (found : Option A) → is_some (option_map f found) ≡ is_some found
 is_some_mapped f None = refl

@@ -1,37 +1,17 @@
 -- a change of a state in which only a queue is kept of each stream is the change of the state; and blocks rise still
 use Rattle.std.proofs.Common.{◌≡◌, ℕ, Option, None, Some, List, [], ◌∷◌, refl, ap, sym, subst, ◌∙◌, arith, length-append}
-use Rattle.std.specs.Prelude.{not, fold}
-use Rattle.std.specs.Option.{option_map}
-use Rattle.radio_policy.specs.declared.rule.Rule.{Rule}
-use Rattle.radio_policy.specs.declared.rule.Rule.TheVariants.{Lagged, SourceSilent, SourceKilled}
-use Rattle.radio_events.specs.declared.command.Command.{Command}
-use Rattle.radio_events.specs.declared.command.Command.TheVariants.{MoveClients, KillClient, KillSource, SetTitle as NewTitle, SetFallback, AddUser, DeleteUser}
-use Rattle.radio_tables.specs.Lists.{Each}
-use Rattle.radio_tables.proofs.EachLaws.{Each_kept, Each_updated, Each_placed}
-use Rattle.radio_seats_rows.specs.Seats.{with_ended}
+use Rattle.radio_core.proofs.Words.{not, fold, option_map, Rule, Lagged, SourceSilent, SourceKilled, Command, MoveClients, KillClient, KillSource, SetFallback, AddUser, DeleteUser, Each, Each_kept, Each_updated}
+use Rattle.radio_core.proofs.Words.{Each_placed, with_ended, Nothing, Answer, Admit, Begin, Raise, Receive, TakeSeat, Advance, End, EndAndLeave, Forget, Tick, Obey, StationState, answered, done, session_ended_by}
+use Rattle.radio_core.proofs.Words.{session_killed, changed, carried_along, session_over, session_ended, called_home, client_gone, laggards_ended, session_begun, session_raised, finished_in, before_silence}
+use Rattle.radio_core.proofs.Words.{session_silenced, silent_in, ticked, on_air, is_on_air, is_taken_in, in_state, kept_session, kept_live, kept_of, kept_changed, Session, session_of, is_of, by_mount, opened}
+use Rattle.radio_core.proofs.Words.{with_session, longer, fed, with_title, HasRisingStarts, end_of, with_block, lags_behind, World, Shown, To, station_called, rising_more, kept_found, kept_silent, kept_ends, fed_kept}
+use Rattle.radio_core.proofs.Words.{titled_kept, ended_kept, begun_kept}
+use Rattle.radio_events.specs.declared.command.Command.TheVariants.{SetTitle as NewTitle}
 use Rattle.radio_parts_station.specs.declared.clients.ClientState.TheVariants.{Answered}
 use Rattle.radio_parts_changes.specs.declared.change.Change.{Change}
-use Rattle.radio_parts_changes.specs.declared.change.Change.TheVariants.{Nothing, Answer, Admit, Begin, Raise, Receive, SetTitle, TakeSeat, Advance, End}
-use Rattle.radio_parts_changes.specs.declared.change.Change.TheVariants.{EndAndLeave, Forget, Tick, Obey}
-use Rattle.radio_parts_station.specs.StationState.{StationState}
-use Rattle.radio_parts_changes.specs.Changes.{answered, done, session_ended_by, session_killed, changed, carried_along, session_over, session_ended, called_home, client_gone, laggards_ended, session_begun, session_raised}
-use Rattle.radio_parts_station.specs.StationChanges.{finished_in}
-use Rattle.radio_parts_changes.specs.Changes.{before_silence, session_silenced, silent_in, ticked, on_air}
-use Rattle.radio_parts_changes.proofs.PartChanges.{is_on_air, is_taken_in}
-use Rattle.radio_parts_station.specs.Clients.{in_state}
-use Rattle.radio_parts_mount.specs.Kept.{kept_session, kept_live}
-use Rattle.radio_core.specs.Kept.{kept_of}
-use Rattle.radio_parts_changes.specs.KeptChanges.{kept_changed}
-use Rattle.radio_parts_mount.specs.Sessions.{Session, session_of, is_of, by_mount, opened, with_session, longer, fed, with_title, HasRisingStarts}
-use Rattle.radio_parts_mount.specs.Stream.{end_of, with_block}
-use Rattle.radio_parts_mount.specs.Timeouts.{lags_behind}
-use Rattle.radio_parts_station.specs.World.{World}
-use Rattle.radio_values.specs.declared.field.Shown.{Shown}
-use Rattle.radio_fallback.specs.declared.moves.Move.TheVariants.{Ended as HasEnded, To}
-use Rattle.radio_parts.proofs.CalledStation.{station_called}
+use Rattle.radio_parts_changes.specs.declared.change.Change.TheVariants.{SetTitle}
+use Rattle.radio_fallback.specs.declared.moves.Move.TheVariants.{Ended as HasEnded}
 use Rattle.radio_core.proofs.Kept.KeptSights.{carried_alike, called_alike}
-use Rattle.radio_parts_mount.proofs.RisingLemmas.{rising_more}
-use Rattle.radio_parts_mount.proofs.KeptLists.{kept_found, kept_silent, kept_ends, fed_kept, titled_kept, ended_kept, begun_kept}
 
 -- the world with other sessions
 abbrev with_live : World → List Session → World

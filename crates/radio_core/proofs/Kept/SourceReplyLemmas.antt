@@ -1,38 +1,16 @@
 -- The replies to a source depend on its data.
 use Rattle.std.proofs.Common.{◌≡◌, ◌⊎◌, inl, inr, ℕ, ◌+◌, Bool, true, false, List, [], ◌∷◌, ◌++◌, length, length-append, Option, None, Some, is_some, refl, ap}
 use Rattle.std.proofs.Common.{sym, subst, ◌∙◌, arith}
-use Rattle.std.specs.Prelude.{find, nat_lt, if◌then◌else◌}
-use Rattle.std.specs.Option.{option_map}
-use Rattle.std.proofs.lemmas.Bool.{ltb-true, lt-ltb, le-ltb}
+use Rattle.radio_core.proofs.Words.{find, nat_lt, if◌then◌else◌, option_map, ltb-true, lt-ltb, le-ltb, NumbersSpent, update_first, listener_of, StationState, Reply, Noted, Deny, Stray, Standing, Unknown, Sits, changed}
+use Rattle.radio_core.proofs.Words.{is_taken_in, received, Client, client_of, Relay, relay_of, largest_number, live_end, rows_to_push, says, on_verdict, if_feeding, unless_relayed, delivers, takes_in, Nothing, End}
+use Rattle.radio_core.proofs.Words.{Outcome, Allow, verdict_in, Session, is_of, session_of, longer, unless_spent, to_session, to_data_from, to_feeders_end, to_end_from, to_data, to_end, IsToldByData}
+use Rattle.radio_core.proofs.Words.{SourcesAreToldByTheirData, EndsAreTold, outcome, reply_to, world_after, end_of, World, standing_of, has_relay, standing_of_found}
 use Rattle.radio_blocks.specs.Block.{IsBlock}
-use Rattle.radio_policy.specs.declared.rule.Rule.TheVariants.{NumbersSpent}
-use Rattle.radio_tables.specs.Lists.{update_first}
-use Rattle.radio_seats_rows.specs.Seats.{listener_of}
-use Rattle.radio_parts_station.specs.StationState.{StationState}
-use Rattle.radio_events.specs.declared.reply.Reply.{Reply}
-use Rattle.radio_events.specs.declared.reply.Reply.TheVariants.{Noted, Deny, Finished, Stray}
-use Rattle.radio_parts_station.specs.declared.standing.Standing.{Standing}
-use Rattle.radio_parts_station.specs.declared.standing.Standing.TheVariants.{Unknown, Undecided as IsUndecided, Feeds as IsFeeding, Sits}
+use Rattle.radio_events.specs.declared.reply.Reply.TheVariants.{Finished}
+use Rattle.radio_parts_station.specs.declared.standing.Standing.TheVariants.{Undecided as IsUndecided, Feeds as IsFeeding}
 use Rattle.radio_parts_station.specs.declared.standing.Standing.TheVariants.{Answered as IsAnswered, Finished as IsFinished}
-use Rattle.radio_parts_changes.specs.Changes.{changed}
-use Rattle.radio_parts_changes.proofs.PartChanges.{is_taken_in}
-use Rattle.radio_parts_station.specs.StationChanges.{received}
-use Rattle.radio_parts_station.specs.Clients.{Client, client_of}
-use Rattle.radio_parts_station.specs.Relays.{Relay, relay_of}
-use Rattle.radio_parts_station.specs.Facts.{largest_number, live_end, rows_to_push}
-use Rattle.radio_parts.specs.Outcomes.{says, on_verdict, if_feeding, unless_relayed}
-use Rattle.radio_parts.specs.Push.{delivers, takes_in}
-use Rattle.radio_parts_changes.specs.declared.change.Change.TheVariants.{Nothing, End}
-use Rattle.radio_parts.specs.declared.outcome.Outcome.{Outcome}
-use Rattle.radio_policy.specs.declared.judgement.Verdict.TheVariants.{Allow, Deny as Denied}
-use Rattle.radio_policy.specs.Verdicts.{verdict_in}
-use Rattle.radio_parts_mount.specs.Sessions.{Session, is_of, session_of, longer}
+use Rattle.radio_policy.specs.declared.judgement.Verdict.TheVariants.{Deny as Denied}
 use Rattle.radio_events.specs.Replies.{IsQuiet, EndsByRule}
-use Rattle.radio_core.specs.SourceReplies.{unless_spent, to_session, to_data_from, to_feeders_end, to_end_from, to_data, to_end, IsToldByData}
-use Rattle.radio_core.specs.SourceReplies.{SourcesAreToldByTheirData, EndsAreTold}
-use Rattle.radio_parts.specs.Step.{outcome, reply_to, world_after}
-use Rattle.radio_parts_mount.specs.Stream.{end_of}
-use Rattle.radio_parts_station.specs.World.{World, standing_of, has_relay, standing_of_found}
 use Rattle.radio_core.proofs.Clients.Standings.{feeds_in}
 
 -- the first that is sought, after a change of it

@@ -1,28 +1,12 @@
 -- One step of the core, in the states that it represents.
 use Rattle.std.proofs.Common.{◌≡◌, ℕ, List, [], ◌∷◌, Some, Result, Ok, Err, OnOk, OnErr, IfOk, ◌≤◌, refl, ap, sym, subst, ◌∙◌}
-use Rattle.radio_events.specs.declared.event.Event.{Event}
-use Rattle.radio_parts.specs.declared.outcome.Outcome.{Outcome}
-use Rattle.radio_parts_station.specs.declared.standing.Standing.TheVariants.{Sits}
-use Rattle.radio_events.specs.declared.reply.Reply.{Reply}
-use Rattle.radio_parts_changes.specs.Changes.{changed}
-use Rattle.radio_parts_mount.specs.Kept.{first_start}
-use Rattle.radio_parts_changes.specs.KeptChanges.{kept_changed}
-use Rattle.radio_parts_changes.specs.Counts.{counted}
-use Rattle.radio_parts.specs.Planned.{with_counts, uncounted, planned}
-use Rattle.radio_parts_mount.specs.Sessions.{Session, session_of}
-use Rattle.radio_parts.specs.Step.{outcome, reply_to, world_after, Step}
-use Rattle.radio_core.specs.Represents.{Represents, StandsForSome}
-use Rattle.radio_parts_mount.specs.Stream.{end_of}
-use Rattle.radio_parts_station.specs.World.{World, opening, standing_of}
-use Rattle.radio_settings_values.specs.declared.settings.Settings.{Settings}
-use Rattle.radio_access.specs.Lists.{Lists}
+use Rattle.radio_core.proofs.Words.{Event, Outcome, Sits, Reply, changed, first_start, kept_changed, counted, with_counts, uncounted, planned, Session, session_of, outcome, reply_to, world_after, Step, Represents}
+use Rattle.radio_core.proofs.Words.{StandsForSome, end_of, World, opening, standing_of, Settings, Lists, Seat, seat_of, last_mount_of}
 use Rattle.radio_core.proofs.Kept.KeptOutcomes.{outcome_kept}
 use Rattle.radio_core.proofs.Kept.KeptRuns.{kept_on, seat_is_kept}
 use Rattle.radio_core.proofs.Kept.KeptSteps.{changed_kept, rise_changed}
 use Rattle.radio_parts.proofs.PlannedLemmas.{planned_so, completed_so}
 use Rattle.radio_core.proofs.Sound.SoundRuns.{sound_after, sound_opening}
-use Rattle.radio_seats_rows.specs.declared.seat.Seat.{Seat}
-use Rattle.radio_seats_rows.specs.Seats.{seat_of, last_mount_of}
 use Rattle.radio_parts_facts.specs.Wanted.{wanted}
 
 -- the opening state represents itself

@@ -2,56 +2,23 @@
 use Rattle.std.specs.Ordering.{nat_cmp}
 use Rattle.std.proofs.Common.{◌≡◌, Bool, true, false, ◌||◌, not, ℕ, ◌+◌, ◌==◌, Option, Some, None, is_some, List, [], ◌∷◌, refl, ap}
 use Rattle.std.proofs.Common.{sym, subst, ◌∙◌, arith}
-use Rattle.std.proofs.lemmas.Bool.Decides.{nat_tests}
-use Rattle.radio_tables.proofs.KeyLaws.{by_number}
-use Rattle.radio_addr.specs.declared.peer.Peer.{Peer}
-use Rattle.radio_settings_values.specs.declared.settings.Settings.{Settings}
-use Rattle.radio_access.specs.Lists.{Lists}
-use Rattle.radio_seats_rows.specs.declared.seat.Listener.{Listener}
-use Rattle.radio_seats_rows.specs.declared.seat.Seat.{Seat}
-use Rattle.radio_seats_rows.specs.declared.seat.Seating.{Seating}
+use Rattle.radio_core.proofs.Words.{nat_tests, by_number, Peer, Settings, Lists, Listener, Seat, Seating, is_listener, listener_of, advanced, seated, ClientState, Listens, Ended, Event, Push, TakeSeat, Forget, Outcome}
+use Rattle.radio_core.proofs.Words.{client_in, Standing, Unknown, Undecided, Feeds, Answered, Shown, placed, Each, Each_each, Each_kept, Each_placed, Client, client_of, undecided_client, Relay, relay_of, risen}
+use Rattle.radio_core.proofs.Words.{session_of, Cause, changed, session_ended, block_received, ticked, first_seat, IsSound, shown_for, outcome, world_after, Way, Misplaced, IsFinished, IsDenied, IsRefused, IsAdmitted}
+use Rattle.radio_core.proofs.Words.{Begins, ComesUp, Receives, SetsTitle, TakesSeat, HandsOut, Ends, EndsAndLeaves, Leaves, GoesDown, Obeys, Shows, HasPassed, Ticks, World, opening, standing_of, standing_of_found}
+use Rattle.radio_core.proofs.Words.{standing_of_client, standing_seated, standing_of_listener, IsRising, IsFree, has, without, placed_rising, placed_free, kept_rising, kept_free, taken_free, numbers_updated}
+use Rattle.radio_core.proofs.Words.{numbers_placed, numbers_without, number_found, number_free, way_of, listener_seated, raised, numbers_hearing}
 use Rattle.radio_seats_rows.specs.declared.seat.Seating.TheVariants.{Sits as HasSeat, Finished as HasFinished}
-use Rattle.radio_seats_rows.specs.Seats.{is_listener, listener_of, advanced, seated}
-use Rattle.radio_parts_station.specs.declared.clients.ClientState.{ClientState}
-use Rattle.radio_parts_station.specs.declared.clients.ClientState.TheVariants.{Undecided as IsNew, Feeds as IsSource, Listens, Answered as HasHisAnswer, Ended}
-use Rattle.radio_events.specs.declared.event.Event.{Event}
-use Rattle.radio_events.specs.declared.event.Event.TheVariants.{Push}
-use Rattle.radio_parts_changes.specs.declared.change.Change.TheVariants.{TakeSeat, Forget}
-use Rattle.radio_parts.specs.declared.outcome.Outcome.{Outcome}
-use Rattle.radio_events.specs.Events.{client_in}
-use Rattle.radio_parts_station.specs.declared.standing.Standing.{Standing}
-use Rattle.radio_parts_station.specs.declared.standing.Standing.TheVariants.{Unknown, Undecided, Feeds, Answered}
-use Rattle.radio_values.specs.declared.field.Shown.{Shown}
-use Rattle.radio_tables.specs.Lists.{placed, Each}
-use Rattle.radio_tables.proofs.EachLaws.{Each_each, Each_kept, Each_placed}
-use Rattle.radio_parts_station.specs.Clients.{Client, client_of, undecided_client}
-use Rattle.radio_parts_station.specs.Relays.{Relay, relay_of, risen}
-use Rattle.radio_parts_mount.specs.Sessions.{session_of}
-use Rattle.radio_core.specs.Finishes.{Cause}
-use Rattle.radio_parts_changes.specs.Changes.{changed, session_ended, block_received}
-use Rattle.radio_parts_changes.specs.Changes.{ticked}
-use Rattle.radio_parts.specs.Listen.{first_seat}
-use Rattle.radio_core.specs.Sound.{IsSound}
-use Rattle.radio_parts_station.specs.Streams.{shown_for}
-use Rattle.radio_parts.specs.Step.{outcome, world_after}
-use Rattle.radio_parts.specs.Ways.{Way, Misplaced, IsFinished, IsDenied, IsRefused, IsAdmitted, Begins, ComesUp, Receives, SetsTitle, TakesSeat, HandsOut, Ends}
-use Rattle.radio_parts.specs.Ways.{EndsAndLeaves, Leaves, GoesDown, Obeys, Shows, HasPassed, Ticks}
-use Rattle.radio_parts_station.specs.World.{World, opening, standing_of, standing_of_found, standing_of_client, standing_seated, standing_of_listener}
+use Rattle.radio_parts_station.specs.declared.clients.ClientState.TheVariants.{Undecided as IsNew, Feeds as IsSource, Answered as HasHisAnswer}
 use Rattle.radio_core.proofs.Clients.CalledHome.{turns_up, just_raised, sound_just_raised, stands_called}
 use Rattle.radio_core.proofs.Clients.Effects.{IsSwept, GoesOnAs, IsOut, HasDone, tick_swept, obeyed_swept, his_event}
 use Rattle.radio_core.proofs.Clients.Fates.{Fate, GoesOn, IsEnded, HasStopped, IsMoved, HasEnded, Nobody}
-use Rattle.radio_parts_mount.proofs.NumberLists.{IsRising, IsFree, has, without, placed_rising, placed_free, kept_rising, kept_free}
-use Rattle.radio_parts_mount.proofs.NumberLists.{taken_free, numbers_updated, numbers_placed, numbers_without, number_found, number_free}
 use Rattle.radio_core.proofs.Clients.Obeyed.{is_answered}
 use Rattle.radio_core.proofs.Sound.SoundEnds.{turns_ended}
 use Rattle.radio_core.proofs.Sound.SoundRuns.{grown_world, NoMove, lag_fates}
 use Rattle.radio_core.proofs.Clients.Standings.{Turns, IsThere, asks, no_client_there, no_relay_there, turns_answered, turns_sitting, turns_forgotten, turns_admitted, turns_raised, stays_given}
 use Rattle.radio_core.proofs.Clients.Standings.{stays_hearing}
-use Rattle.radio_parts.proofs.Ways.{way_of}
-use Rattle.radio_seats_rows.proofs.SeatLaws.{listener_seated}
 use Rattle.radio_core.proofs.Numbers.NumbersStay.{number_of, relay_number, row_of, ids, relay_ids, rows, AreTheSame, same_called, same_state, same_obeyed, same_over_rows, same_ticked, same_begun, same_received}
-use Rattle.radio_parts_station.specs.StationChanges.{raised}
-use Rattle.radio_seats_rows.proofs.GivenLaws.{numbers_hearing}
 
 -- it has not asked for anything yet, if it is there at all
 abbrev pub IsYetToAsk : Standing → Type 0

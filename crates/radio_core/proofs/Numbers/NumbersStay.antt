@@ -1,38 +1,14 @@
 -- the same clients and listeners are there after a change by which nobody comes or goes
 use Rattle.std.proofs.Common.{◌≡◌, Bool, true, false, ℕ, Option, Some, None, List, [], ◌∷◌, refl}
 use Rattle.std.proofs.Common.{◌∙◌}
-use Rattle.std.specs.Prelude.{map, if◌then◌else◌, fold}
-use Rattle.radio_policy.specs.declared.rule.Rule.{Rule}
-use Rattle.radio_policy.specs.declared.rule.Rule.TheVariants.{Lagged, TimeOver, SourceSilent, Killed, SourceKilled}
-use Rattle.radio_seats_rows.specs.declared.seat.Listener.{Listener}
-use Rattle.radio_seats_rows.specs.declared.seat.Seat.{Seat}
-use Rattle.radio_seats_rows.specs.Seats.{is_listener, finished_if, loses, with_ended}
-use Rattle.radio_parts_station.specs.declared.clients.ClientState.{ClientState}
-use Rattle.radio_parts_station.specs.declared.clients.ClientState.TheVariants.{Feeds as IsSource, Answered as HasHisAnswer, Ended}
-use Rattle.radio_events.specs.declared.command.Command.{Command}
-use Rattle.radio_events.specs.declared.command.Command.TheVariants.{MoveClients, KillClient, KillSource, SetTitle, SetFallback, AddUser, DeleteUser}
-use Rattle.radio_parts_changes.specs.declared.change.Change.TheVariants.{Begin, Obey}
-use Rattle.radio_parts_station.specs.Clients.{Client, is_client, in_state, with_client_state}
-use Rattle.radio_parts_station.specs.Relays.{Relay, is_relay, relay_ended, with_relay_ended}
-use Rattle.radio_settings_values.specs.Options.{options_for}
-use Rattle.radio_values.specs.declared.field.Shown.{Shown}
-use Rattle.radio_fallback.specs.declared.moves.Move.{Move}
-use Rattle.radio_fallback.specs.declared.moves.Move.TheVariants.{Ended as SessionEnds, Up, To}
-use Rattle.radio_fallback.proofs.FaresLemmas.{numbers_kept}
-use Rattle.radio_parts_changes.specs.Changes.{answered, session_killed, changed, carried_along, session_over, session_ended, called_home, block_received, session_begun}
-use Rattle.radio_parts_changes.specs.Changes.{before_silence, session_silenced, silent_in, ticked}
-use Rattle.radio_parts_station.specs.Facts.{sight_of}
-use Rattle.radio_parts_mount.specs.Sessions.{Session, session_of}
-use Rattle.radio_parts_mount.specs.Timeouts.{lags_behind, has_sat_out}
-use Rattle.radio_parts_station.specs.Timeouts.{timed_out}
-use Rattle.radio_parts_station.specs.World.{World}
-use Rattle.radio_parts_mount.proofs.NumberLists.{numbers_updated, numbers_mapped}
-use Rattle.radio_access.specs.Lists.{Lists, with_user_at, without_user_at}
-use Rattle.radio_parts_station.specs.Outsiders.{is_shut_out}
+use Rattle.radio_core.proofs.Words.{map, if◌then◌else◌, fold, Rule, Lagged, TimeOver, SourceSilent, Killed, SourceKilled, Listener, Seat, is_listener, finished_if, loses, with_ended, ClientState, Ended, Command}
+use Rattle.radio_core.proofs.Words.{MoveClients, KillClient, KillSource, SetTitle, SetFallback, AddUser, DeleteUser, Begin, Obey, Client, is_client, in_state, with_client_state, Relay, is_relay, relay_ended}
+use Rattle.radio_core.proofs.Words.{with_relay_ended, options_for, Shown, Move, Up, To, numbers_kept, answered, session_killed, changed, carried_along, session_over, session_ended, called_home, block_received}
+use Rattle.radio_core.proofs.Words.{session_begun, before_silence, session_silenced, silent_in, ticked, sight_of, Session, session_of, lags_behind, has_sat_out, timed_out, World, numbers_updated, numbers_mapped, Lists}
+use Rattle.radio_core.proofs.Words.{with_user_at, without_user_at, is_shut_out, ListenerPassword, outsiders_ended, numbers_hearing}
+use Rattle.radio_parts_station.specs.declared.clients.ClientState.TheVariants.{Feeds as IsSource, Answered as HasHisAnswer}
+use Rattle.radio_fallback.specs.declared.moves.Move.TheVariants.{Ended as SessionEnds}
 use Rattle.radio_core.proofs.Seats.ChangedUsers.{with_lists}
-use Rattle.radio_policy.specs.declared.rule.Rule.TheVariants.{ListenerPassword}
-use Rattle.radio_parts_changes.specs.Changes.{outsiders_ended}
-use Rattle.radio_seats_rows.proofs.GivenLaws.{numbers_hearing}
 
 -- the numbers of the clients, those of the relays, and those of the listeners
 abbrev pub number_of : Client → ℕ

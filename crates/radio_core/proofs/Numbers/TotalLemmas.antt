@@ -1,46 +1,20 @@
 -- the law of totals
 use Rattle.std.proofs.Common.{◌≡◌, Bool, true, false, ◌||◌, ◌==◌, ℕ, ◌+◌, not, is_some, List, [], ◌∷◌, length, refl, ap}
 use Rattle.std.proofs.Common.{sym, subst, ◌∙◌, arith}
-use Rattle.std.specs.Prelude.{if◌then◌else◌, map}
-use Rattle.std.proofs.lemmas.Bool.{eqb-true}
-use Rattle.radio_tables.specs.Lists.{Each}
-use Rattle.std.proofs.lemmas.List.{length-map}
+use Rattle.radio_core.proofs.Words.{if◌then◌else◌, map, eqb-true, Each, length-map, Settings, Lists, is_listener, listener_of, advanced, seated, Listens, Event, Leave, RelayDown, Outcome, Reply, Noted, Stray, Unknown}
+use Rattle.radio_core.proofs.Words.{Feeds, Nothing, EndAndLeave, Forget, Client, client_of, undecided_client, without_client, Relay, risen, without_relay, Closes, OfClient, OfRelay, says, unless_relayed, changed}
+use Rattle.radio_core.proofs.Words.{session_ended, first_seat, world_after_all, run_after, IsSound, shown_for, outcome, reply_to, world_after, Way, Misplaced, IsFinished, IsDenied, IsRefused, IsAdmitted, Begins, ComesUp}
+use Rattle.radio_core.proofs.Words.{Receives, SetsTitle, TakesSeat, HandsOut, Ends, EndsAndLeaves, Leaves, GoesDown, Obeys, Shows, HasPassed, Ticks, World, opening, standing_of, has_relay, IsFree, has, without}
+use Rattle.radio_core.proofs.Words.{placed_length, one_less, numbers_updated, numbers_placed, numbers_without, number_found, number_free, way_of, numbers_hearing}
 use Rattle.std.proofs.lemmas.List.Filters.{length-filter_both}
-use Rattle.radio_settings_values.specs.declared.settings.Settings.{Settings}
-use Rattle.radio_access.specs.Lists.{Lists}
-use Rattle.radio_seats_rows.specs.Seats.{is_listener, listener_of, advanced, seated}
-use Rattle.radio_parts_station.specs.declared.clients.ClientState.TheVariants.{Listens, Answered as HasHisAnswer}
-use Rattle.radio_events.specs.declared.event.Event.{Event}
-use Rattle.radio_events.specs.declared.event.Event.TheVariants.{Leave, RelayDown}
-use Rattle.radio_parts.specs.declared.outcome.Outcome.{Outcome}
-use Rattle.radio_events.specs.declared.reply.Reply.{Reply}
-use Rattle.radio_events.specs.declared.reply.Reply.TheVariants.{Noted, Stray}
-use Rattle.radio_parts_station.specs.declared.standing.Standing.TheVariants.{Unknown, Feeds}
-use Rattle.radio_parts_changes.specs.declared.change.Change.TheVariants.{Nothing, EndAndLeave, Forget}
-use Rattle.radio_parts_station.specs.Clients.{Client, client_of, undecided_client, without_client}
-use Rattle.radio_parts_station.specs.Relays.{Relay, risen, without_relay}
-use Rattle.radio_parts.specs.Closing.{Closes, OfClient, OfRelay}
-use Rattle.radio_parts.specs.Outcomes.{says, unless_relayed}
-use Rattle.radio_parts_changes.specs.Changes.{changed, session_ended}
+use Rattle.radio_parts_station.specs.declared.clients.ClientState.TheVariants.{Answered as HasHisAnswer}
 use Rattle.radio_parts.specs.Leave.{leaves_from}
-use Rattle.radio_parts.specs.Listen.{first_seat}
-use Rattle.radio_core.specs.Run.{world_after_all, run_after}
-use Rattle.radio_core.specs.Sound.{IsSound}
-use Rattle.radio_parts_station.specs.Streams.{shown_for}
-use Rattle.radio_parts.specs.Step.{outcome, reply_to, world_after}
 use Rattle.radio_core.specs.Totals.{numbers_given, arrivals, relays_up, relays_down, relays_there, departures, seatings, listeners_leaving, has_seat, clients_there, seats_there, seats_lost, AddsUp}
-use Rattle.radio_parts.specs.Ways.{Way, Misplaced, IsFinished, IsDenied, IsRefused, IsAdmitted, Begins, ComesUp, Receives, SetsTitle, TakesSeat, HandsOut, Ends}
-use Rattle.radio_parts.specs.Ways.{EndsAndLeaves, Leaves, GoesDown, Obeys, Shows, HasPassed, Ticks}
-use Rattle.radio_parts_station.specs.World.{World, opening, standing_of, has_relay}
-use Rattle.radio_parts_mount.proofs.NumberLists.{IsFree, has, without, placed_length, one_less}
-use Rattle.radio_parts_mount.proofs.NumberLists.{numbers_updated, numbers_placed, numbers_without, number_found, number_free}
 use Rattle.radio_core.proofs.Sound.SoundRuns.{sound_after, sound_opening}
 use Rattle.radio_core.proofs.Clients.CalledHome.{just_raised}
 use Rattle.radio_core.proofs.Clients.Standings.{is_client_there, no_client_there, no_relay_there}
-use Rattle.radio_parts.proofs.Ways.{way_of}
 use Rattle.radio_core.proofs.Numbers.NumbersStay.{number_of, relay_number, row_of, ids, relay_ids, rows, AreTheSame, same_called, nobody_else, same_state, same_obeyed, same_over_rows, same_ticked, same_begun, same_received}
 use Rattle.radio_core.proofs.Numbers.NumbersRise.{IsYetToAsk, AreInOrder, order_after, order_opening}
-use Rattle.radio_seats_rows.proofs.GivenLaws.{numbers_hearing}
 
 -- what came and went, and how many are there then
 record Adds (w later : World) (event : Event) (reply : Reply) : Type 0 where

@@ -1,22 +1,8 @@
 -- who loses its seat where a command has changed the users of its mount
 use Rattle.std.proofs.Common.{◌≡◌, Bool, true, false, ℕ, List, refl, ap, sym, subst, ◌∙◌}
-use Rattle.std.specs.Prelude.{not}
-use Rattle.std.specs.Str.{bytes_eq}
-use Rattle.std.proofs.lemmas.Bool.{and_parts}
-use Rattle.std.proofs.lemmas.Slice.Eq.{bytes_eq-Decides}
-use Rattle.radio_policy.specs.declared.rule.Rule.TheVariants.{ListenerPassword}
-use Rattle.radio_access.specs.Lists.{Lists, lets_in}
-use Rattle.radio_seats_rows.specs.declared.seat.Seat.{Seat}
-use Rattle.radio_seats_rows.specs.Seats.{seat_of}
-use Rattle.radio_events.specs.declared.event.Event.{Event}
+use Rattle.radio_core.proofs.Words.{not, bytes_eq, and_parts, bytes_eq-Decides, ListenerPassword, Lists, lets_in, Seat, seat_of, Event, is_shut_out, World, Session, ChangesUsers, outsiders_ended, Cause, IsNotAccepted}
+use Rattle.radio_core.proofs.Words.{IsSound}
 use Rattle.radio_parts_station.specs.Fallbacks.{Fallback}
-use Rattle.radio_parts_station.specs.Outsiders.{is_shut_out}
-use Rattle.radio_parts_station.specs.World.{World}
-use Rattle.radio_parts_mount.specs.Sessions.{Session}
-use Rattle.radio_parts.specs.Allowed.{ChangesUsers}
-use Rattle.radio_parts_changes.specs.Changes.{outsiders_ended}
-use Rattle.radio_core.specs.Finishes.{Cause, IsNotAccepted}
-use Rattle.radio_core.specs.Sound.{IsSound}
 use Rattle.radio_core.proofs.Clients.Fates.{Fates, Nobody, seats_fates}
 
 -- the state with these lists

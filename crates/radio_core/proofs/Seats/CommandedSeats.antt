@@ -1,16 +1,6 @@
 -- whom a command finds: the session that it names, and the seat of the listener whom it finishes
 use Rattle.std.proofs.Common.{◌≡◌, true, false, ℕ, Option, Some, None, is_some, List, refl}
-use Rattle.std.specs.Option.{option_map_or}
-use Rattle.std.specs.Str.{bytes_eq}
-use Rattle.std.proofs.lemmas.Slice.Eq.{bytes_eq-Decides}
-use Rattle.radio_parts_mount.specs.Sessions.{Session}
-use Rattle.radio_seats_rows.specs.declared.seat.Seat.{Seat}
-use Rattle.radio_seats_rows.specs.Seats.{seat_of}
-use Rattle.radio_events.specs.declared.command.Command.TheVariants.{KillClient}
-use Rattle.radio_events.specs.declared.event.Event.{Event}
-use Rattle.radio_parts_facts.specs.CommandFacts.{is_live, is_listener_at}
-use Rattle.radio_parts_station.specs.World.{World}
-use Rattle.radio_parts.specs.Allowed.{IsCommanded}
+use Rattle.radio_core.proofs.Words.{option_map_or, bytes_eq, bytes_eq-Decides, Session, Seat, seat_of, KillClient, Event, is_live, is_listener_at, World, IsCommanded}
 use Rattle.radio_core.proofs.Commands.AllowedCommands.{may_kill, needs_hold}
 
 -- what is looked up is there

@@ -1,12 +1,6 @@
 -- whose seats are as they were when all at a mount hear a session that has begun there
 use Rattle.std.proofs.Common.{◌≡◌, Bool, false, ℕ, Option, Some, None, List, refl, ap, sym, ◌∙◌, arith}
-use Rattle.std.specs.Prelude.{if◌then◌else◌}
-use Rattle.std.specs.Option.{option_map}
-use Rattle.std.specs.Str.{bytes_eq}
-use Rattle.radio_seats_rows.specs.declared.seat.Listener.{Listener}
-use Rattle.radio_seats_rows.specs.declared.seat.Seat.{Seat}
-use Rattle.radio_seats_rows.specs.Seats.{seat_of, with_session_at, has_user}
-use Rattle.radio_seats_rows.proofs.GivenLaws.{seat_hearing, seat_of_hearing, count_hearing}
+use Rattle.radio_core.proofs.Words.{if◌then◌else◌, option_map, bytes_eq, Listener, Seat, seat_of, with_session_at, has_user, seat_hearing, seat_of_hearing, count_hearing}
 use Rattle.radio_seats_rows.proofs.CountLaws.{NobodyCame}
 
 module _ (mount : List ℕ) (session : ℕ) (seats : List Listener) (id : ℕ) (seat : Seat)

@@ -1,17 +1,7 @@
 -- whoever sits in a session, or waits for one, sits in no other
 use Rattle.std.proofs.Common.{◌≡◌, true, false, ℕ, ◌==◌, Some, None, List, ap, sym, ◌∙◌}
-use Rattle.std.specs.Str.{bytes_eq}
-use Rattle.std.proofs.lemmas.Slice.Eq.{bytes_eq-Decides}
-use Rattle.radio_tables.proofs.KeyLaws.{by_number, by_name}
-use Rattle.radio_seats_rows.specs.declared.seat.Seat.{Seat}
-use Rattle.radio_seats_rows.specs.Seats.{seat_of}
-use Rattle.radio_parts_mount.specs.Sessions.{Session, session_of}
-use Rattle.radio_parts_station.specs.declared.standing.Standing.TheVariants.{Unknown, Feeds}
-use Rattle.radio_parts_station.specs.Waiting.{heard_at}
-use Rattle.radio_parts_station.specs.World.{World, standing_of}
-use Rattle.radio_core.specs.Sound.{IsSound}
+use Rattle.radio_core.proofs.Words.{bytes_eq, bytes_eq-Decides, by_number, by_name, Seat, seat_of, Session, session_of, Unknown, Feeds, heard_at, World, standing_of, IsSound, heard_live, heard_cases}
 use Rattle.radio_core.proofs.Clients.Fates.{HasEnded}
-use Rattle.radio_parts.proofs.HeardLemmas.{heard_live, heard_cases}
 
 -- no session has the number 0
 pub past_zero : (w : World) → IsSound w → (mount : List ℕ) (session : Session) → session_of w.station.live mount ≡ Some session → (session.number == 0) ≡ false

@@ -1,21 +1,7 @@
 -- whoever has lost its seat has left by it, or was finished
 use Rattle.std.proofs.Common.{◌≡◌, inl, inr, ℕ, Some, None, ap, sym, ◌∙◌}
-use Rattle.radio_events.specs.declared.event.Event.{Event}
-use Rattle.radio_events.specs.declared.event.Event.TheVariants.{Leave}
-use Rattle.radio_parts.specs.declared.outcome.Outcome.{Outcome}
-use Rattle.radio_parts_station.specs.declared.standing.Standing.TheVariants.{Unknown, Sits}
-use Rattle.radio_policy.specs.declared.rule.Rule.{Rule}
-use Rattle.radio_seats_rows.specs.declared.seat.Seat.{Seat}
-use Rattle.radio_seats_rows.specs.Seats.{seat_of}
-use Rattle.radio_parts_changes.specs.Changes.{changed}
-use Rattle.radio_core.specs.Finishes.{Finishes}
-use Rattle.radio_core.specs.Others.{StandsOn, LosesNoSeatElse}
-use Rattle.radio_core.specs.Sound.{IsSound}
-use Rattle.radio_parts.specs.Step.{outcome, world_after}
-use Rattle.radio_parts.specs.Ways.{Way, Misplaced, IsFinished, IsDenied, IsRefused, IsAdmitted, Begins, ComesUp, Receives, SetsTitle, TakesSeat, HandsOut, Ends}
-use Rattle.radio_parts.specs.Ways.{EndsAndLeaves, Leaves, GoesDown, Obeys, Shows, HasPassed, Ticks}
-use Rattle.radio_events.specs.Events.{client_in}
-use Rattle.radio_parts_station.specs.World.{World, standing_of}
+use Rattle.radio_core.proofs.Words.{Event, Leave, Outcome, Unknown, Sits, Rule, Seat, seat_of, changed, Finishes, StandsOn, LosesNoSeatElse, IsSound, outcome, world_after, Way, Misplaced, IsFinished, IsDenied, IsRefused}
+use Rattle.radio_core.proofs.Words.{IsAdmitted, Begins, ComesUp, Receives, SetsTitle, TakesSeat, HandsOut, Ends, EndsAndLeaves, Leaves, GoesDown, Obeys, Shows, HasPassed, Ticks, client_in, World, standing_of, way_of}
 use Rattle.radio_core.proofs.Clients.ClosingLemmas.{closes_his}
 use Rattle.radio_core.proofs.Clients.Effects.{his_event}
 use Rattle.radio_core.proofs.Clients.FinishLemmas.{others_hold}
@@ -23,7 +9,6 @@ use Rattle.radio_core.proofs.Clients.OwnLemmas.{by_own}
 use Rattle.radio_core.proofs.Seats.SeatedLemmas.{seat_of_sitting}
 use Rattle.radio_core.proofs.Clients.ReplyLemmas.{replies_fit}
 use Rattle.radio_core.proofs.Sound.SoundSessions.{has_advanced}
-use Rattle.radio_parts.proofs.Ways.{way_of}
 
 module _ (w : World) (s : IsSound w) (id : ℕ) (seat : Seat) (has : seat_of w.seats id ≡ Some seat) where
   sits : standing_of w id ≡ Sits

@@ -1,70 +1,25 @@
 -- what an event does to one seat, and hands to its listener
 use Rattle.std.proofs.Common.{◌≡◌, ◌⊎◌, inl, inr, true, false, Bool, ℕ, ◌+◌, ◌≤◌, ◌==◌, Option, Some, None, List, [], length, refl, ap, sym, subst, ◌∙◌, arith}
-use Rattle.std.specs.Prelude.{if◌then◌else◌}
-use Rattle.std.specs.Str.{bytes_eq}
-use Rattle.std.proofs.lemmas.Bool.Decides.{nat_tests}
-use Rattle.radio_policy.specs.declared.rule.Rule.{Rule}
-use Rattle.radio_policy.specs.declared.judgement.Verdict.TheVariants.{Allow}
-use Rattle.radio_policy.specs.Verdicts.{verdict_in}
-use Rattle.radio_addr.specs.declared.peer.Peer.{Peer}
-use Rattle.radio_tables.proofs.KeyLaws.{by_number}
-use Rattle.radio_events.specs.declared.event.Event.{Event}
-use Rattle.radio_events.specs.declared.event.Event.TheVariants.{Push, SourceEnd, Listen, Draw, Leave, Clock}
-use Rattle.radio_events.specs.declared.event.ListenRequest.{ListenRequest}
-use Rattle.radio_parts_changes.specs.declared.change.Change.TheVariants.{TakeSeat, Advance, End, EndAndLeave, Forget, Obey}
-use Rattle.radio_parts.specs.declared.outcome.Outcome.{Outcome}
-use Rattle.radio_seats_rows.specs.declared.seat.Seat.{Seat}
-use Rattle.radio_parts_station.specs.declared.standing.Standing.TheVariants.{Undecided, Feeds, Sits, Unknown}
-use Rattle.radio_parts_station.specs.World.{World, standing_of, world}
-use Rattle.radio_parts_changes.specs.Changes.{changed, called_home, block_received, ticked}
-use Rattle.radio_parts_station.specs.StationChanges.{begun, raised}
-use Rattle.radio_core.specs.Handing.{data_in, of_client, handed_at}
-use Rattle.radio_parts_station.specs.Facts.{sight_of, rows_to_listen, walks_to}
-use Rattle.radio_core.specs.Finishes.{Cause, Finishes}
-use Rattle.radio_core.specs.Moves.{Brings, TakesTo, ByComingUp, ByRelayUp, moved_into}
-use Rattle.radio_parts_station.specs.Streams.{shown_for}
-use Rattle.radio_parts_station.specs.StationState.{StationState}
-use Rattle.radio_access.specs.Lists.{Lists, lets_in}
-use Rattle.radio_events.specs.declared.command.Command.{Command}
-use Rattle.radio_parts.specs.Allowed.{IsCommanded}
-use Rattle.radio_events.specs.Events.{client_in}
-use Rattle.radio_fallback.specs.declared.moves.Move.TheVariants.{Up}
-use Rattle.radio_fallback.specs.Carry.{at_his_turn}
-use Rattle.radio_fallback.proofs.Faring.{comes_home}
-use Rattle.radio_settings_values.specs.declared.settings.Settings.{Settings}
-use Rattle.radio_settings_values.specs.Options.{options_for}
-use Rattle.radio_fallback.specs.declared.walking.Landing.TheVariants.{Lands}
-use Rattle.std.proofs.lemmas.Slice.Eq.{bytes_eq-Decides}
-use Rattle.radio_parts.specs.Listen.{first_seat}
-use Rattle.radio_core.specs.SeatSteps.{ComesUpOn, ASource, ARelay, IsSent, HisSessionIsOver, HeIsCalledHome, SeatStep, Stays, IsHanded, SitsDown, IsMoved as HeIsMoved, Leaves as HeLeaves, IsEnded as HeIsEnded, SeatsStep, IsGiven}
-use Rattle.radio_seats_rows.specs.Seats.{seat_of, seat_in, with_session_at}
-use Rattle.radio_parts_mount.specs.Sessions.{Session, session_of, opened, with_session}
-use Rattle.radio_core.specs.Sound.{IsSound}
-use Rattle.radio_parts.specs.Step.{outcome, reply_to, world_after}
-use Rattle.radio_parts_mount.specs.Stream.{data_at, end_of}
-use Rattle.radio_parts.specs.Ways.{Way, Misplaced, IsFinished, IsDenied, IsRefused, IsAdmitted, Begins, ComesUp, Receives, SetsTitle, TakesSeat, HandsOut, Ends}
-use Rattle.radio_parts.specs.Ways.{EndsAndLeaves, Leaves, GoesDown, Obeys, Shows, HasPassed, Ticks}
+use Rattle.radio_core.proofs.Words.{if◌then◌else◌, bytes_eq, nat_tests, Rule, Allow, verdict_in, Peer, by_number, Event, Push, SourceEnd, Listen, Draw, Leave, Clock, ListenRequest, TakeSeat, Advance, End, EndAndLeave}
+use Rattle.radio_core.proofs.Words.{Forget, Obey, Outcome, Seat, Undecided, Feeds, Sits, Unknown, World, standing_of, world, changed, called_home, block_received, ticked, begun, raised, data_in, of_client, handed_at}
+use Rattle.radio_core.proofs.Words.{sight_of, rows_to_listen, walks_to, Cause, Finishes, Brings, TakesTo, ByComingUp, ByRelayUp, moved_into, shown_for, StationState, Lists, lets_in, Command, IsCommanded, client_in, Up}
+use Rattle.radio_core.proofs.Words.{at_his_turn, comes_home, Settings, options_for, Lands, bytes_eq-Decides, first_seat, ComesUpOn, ASource, ARelay, IsSent, HisSessionIsOver, HeIsCalledHome, SeatStep, IsHanded, SitsDown}
+use Rattle.radio_core.proofs.Words.{SeatsStep, IsGiven, seat_of, seat_in, with_session_at, Session, session_of, opened, with_session, IsSound, outcome, reply_to, world_after, data_at, end_of, Way, Misplaced, IsFinished}
+use Rattle.radio_core.proofs.Words.{IsDenied, IsRefused, IsAdmitted, Begins, ComesUp, Receives, SetsTitle, TakesSeat, HandsOut, Ends, EndsAndLeaves, Leaves, GoesDown, Obeys, Shows, HasPassed, Ticks, is_no_listener}
+use Rattle.radio_core.proofs.Words.{beside_left, station_called, way_of, option_map, heard_at, is_new_session, heard_cases, heard_live, seat_hearing, seat_of_hearing, Shown}
+use Rattle.radio_core.specs.SeatSteps.{Stays, IsMoved as HeIsMoved, Leaves as HeLeaves, IsEnded as HeIsEnded}
 use Rattle.radio_core.proofs.Clients.Obeyed.{IsObeyed, LeavesFor, Takes as TakesByIt, obeyed}
 use Rattle.radio_core.proofs.Clients.OwnLemmas.{not_of, nothing_of}
-use Rattle.radio_seats_rows.proofs.SeatLaws.{is_no_listener, beside_left}
 use Rattle.radio_core.proofs.Seats.LostSeats.{loses_no_seat_else}
 use Rattle.radio_core.proofs.Sound.Soundness.{has_new_seat, had_no_seat, beside_new_seat}
 use Rattle.radio_core.proofs.Sound.SoundSessions.{has_advanced, others_seats, behind_within}
 use Rattle.radio_core.proofs.Clients.CalledHome.{IsCalled, Rests as CalledRests, Comes as CalledComes, is_called, sound_just_begun, sound_just_raised}
-use Rattle.radio_parts.proofs.CalledStation.{station_called}
 use Rattle.radio_core.proofs.Sound.SoundEnds.{ended_fates, ended_and_left_fates}
 use Rattle.radio_core.proofs.Clients.Fates.{Fate, GoesOn, IsEnded, HasStopped, IsMoved, Fates, HasEnded, Nobody}
 use Rattle.radio_core.proofs.Sessions.TickLemmas.{ticked_fates}
 use Rattle.radio_core.proofs.Sound.SoundRuns.{grown_world, NoMove, lag_fates}
-use Rattle.radio_parts.proofs.Ways.{way_of}
-use Rattle.std.specs.Option.{option_map}
-use Rattle.radio_parts_station.specs.Waiting.{heard_at}
-use Rattle.radio_parts_mount.proofs.SessionLookups.{is_new_session}
-use Rattle.radio_parts.proofs.HeardLemmas.{heard_cases, heard_live}
 use Rattle.radio_core.proofs.Seats.HeardApart.{apart_sessions, apart_then}
-use Rattle.radio_seats_rows.proofs.GivenLaws.{seat_hearing, seat_of_hearing}
 use Rattle.radio_core.proofs.Seats.GivenSeats.{sat_elsewhere}
-use Rattle.radio_values.specs.declared.field.Shown.{Shown}
 
 -- an event does one of these to a seat: nothing, draw the data at its place, give one to a client that had none, move it, take it away
 data Turn (w later : World) (event : Event) (id : ℕ) : Option Seat → List ℕ → Option Seat → Type 0 where

@@ -1,18 +1,10 @@
 -- who sits, and its seat
 use Rattle.std.proofs.Common.{◌≡◌, ℕ, Option, Some, None, refl}
-use Rattle.radio_addr.specs.declared.peer.Peer.{Peer}
-use Rattle.radio_seats_rows.specs.declared.seat.Listener.{Listener}
-use Rattle.radio_seats_rows.specs.declared.seat.Seat.{Seat}
-use Rattle.radio_seats_rows.specs.declared.seat.Seating.{Seating}
+use Rattle.radio_core.proofs.Words.{Peer, Listener, Seat, Seating, listener_of, seat_of, seat_in, seat_held, ClientState, Listens, Ended, Sits, Client, client_of, Relay, relay_of, World, standing_of, standing_of_found}
+use Rattle.radio_core.proofs.Words.{standing_of_client, standing_of_listener, standing_seated}
 use Rattle.radio_seats_rows.specs.declared.seat.Seating.TheVariants.{Sits as HasSeat, Finished as HasFinished}
-use Rattle.radio_seats_rows.specs.Seats.{listener_of, seat_of, seat_in, seat_held}
-use Rattle.radio_parts_station.specs.declared.clients.ClientState.{ClientState}
-use Rattle.radio_parts_station.specs.declared.clients.ClientState.TheVariants.{Undecided as IsNew, Feeds as IsSource, Listens, Answered, Ended}
-use Rattle.radio_parts_station.specs.declared.standing.Standing.TheVariants.{Sits}
-use Rattle.radio_parts_station.specs.Clients.{Client, client_of}
-use Rattle.radio_parts_station.specs.Relays.{Relay, relay_of}
+use Rattle.radio_parts_station.specs.declared.clients.ClientState.TheVariants.{Undecided as IsNew, Feeds as IsSource, Answered}
 use Rattle.radio_core.proofs.Clients.Standings.{no_relay_sits}
-use Rattle.radio_parts_station.specs.World.{World, standing_of, standing_of_found, standing_of_client, standing_of_listener, standing_seated}
 
 -- who sits has a seat
 held_seat : (seating : Seating) → standing_seated seating ≡ Sits → (seat : Seat) × (seat_held seating ≡ Some seat)

@@ -1,48 +1,21 @@
 -- what an event does to the session of one mount; no event changes the settings
 use Rattle.std.proofs.Common.{◌≡◌, ◌⊎◌, inl, inr, ℕ, ◌+◌, ◌*◌, ◌-◌, ◌≤◌, Option, Some, None, List, refl, ap, sym, subst, ◌∙◌}
-use Rattle.std.specs.Prelude.{unwrap_or}
-use Rattle.std.proofs.lemmas.Slice.Eq.{bytes_eq-Decides}
-use Rattle.radio_policy.specs.declared.rule.Rule.{Rule}
-use Rattle.radio_settings_values.specs.Options.{options_for}
-use Rattle.radio_tables.proofs.KeyLaws.{by_name}
-use Rattle.radio_seats_rows.specs.Seats.{listener_of}
-use Rattle.radio_events.specs.declared.event.Event.{Event}
-use Rattle.radio_events.specs.declared.event.Event.TheVariants.{Source, Push, SourceEnd, Title, Leave, RelayUp, RelayDown, Clock}
-use Rattle.radio_values.specs.declared.field.Shown.{Shown}
-use Rattle.radio_parts_station.specs.Clients.{Client}
-use Rattle.radio_parts.specs.Closing.{Closes, OfClient, OfRelay}
-use Rattle.radio_parts_station.specs.Relays.{relay_of}
+use Rattle.radio_core.proofs.Words.{unwrap_or, bytes_eq-Decides, Rule, options_for, by_name, listener_of, Event, Source, Push, SourceEnd, Title, Leave, RelayUp, RelayDown, Clock, Shown, Client, Closes, OfClient, OfRelay}
+use Rattle.radio_core.proofs.Words.{relay_of, Receive, Obey, Outcome, Undecided, Feeds, Sits, StationState, answered, changed, called_home, session_ended, session_killed, ticked, on_air, on_air_there, on_air_beside}
+use Rattle.radio_core.proofs.Words.{taken_in_there, taken_in_beside, begun, raised, TakesTo, Cause, SessionIsOver, IsFarBehind, HasSatOut, HasAskedNothing, HasSentNothing, IsKilled, HisSessionIsKilled, IsNotAccepted}
+use Rattle.radio_core.proofs.Words.{Session, session_of, opened, with_session, without_session, Command, MoveClients, KillClient, KillSource, SetFallback, AddUser, DeleteUser, IsCommanded, IsSound, shown_for, outcome}
+use Rattle.radio_core.proofs.Words.{world_after, Way, Misplaced, IsFinished, IsDenied, IsRefused, IsAdmitted, Begins, ComesUp, Receives, SetsTitle, TakesSeat, HandsOut, Ends, EndsAndLeaves, Leaves, GoesDown, Obeys}
+use Rattle.radio_core.proofs.Words.{Shows, HasPassed, Ticks, World, standing_of, standing_of_found, world, station_called, found_named, is_new_session, beside_begun, is_over, beside_ended, way_of, with_session_at}
 use Rattle.radio_parts_station.specs.declared.clients.ClientState.TheVariants.{Undecided as IsNew}
-use Rattle.radio_parts_changes.specs.declared.change.Change.TheVariants.{Receive, SetTitle, Obey}
-use Rattle.radio_parts.specs.declared.outcome.Outcome.{Outcome}
-use Rattle.radio_parts_station.specs.declared.standing.Standing.TheVariants.{Undecided, Feeds, Sits}
-use Rattle.radio_parts_station.specs.StationState.{StationState}
-use Rattle.radio_parts_changes.specs.Changes.{answered, changed, called_home, session_ended, session_killed, ticked, on_air}
-use Rattle.radio_parts_changes.proofs.PartChanges.{on_air_there, on_air_beside, taken_in_there, taken_in_beside}
-use Rattle.radio_parts_station.specs.StationChanges.{begun, raised}
-use Rattle.radio_core.specs.Moves.{TakesTo}
-use Rattle.radio_core.specs.Finishes.{Cause, SessionIsOver, IsFarBehind, HasSatOut, HasAskedNothing, HasSentNothing, IsKilled, HisSessionIsKilled, IsNotAccepted}
-use Rattle.radio_parts_mount.specs.Sessions.{Session, session_of, opened, with_session, without_session}
+use Rattle.radio_parts_changes.specs.declared.change.Change.TheVariants.{SetTitle}
 use Rattle.radio_core.specs.SessionSteps.{IsShownAs, OfTheSettings, OfTheSource, HasBegun, SessionStep, Stays, Begins as ItBegins, BeginsForRelay, Grows, IsTitled}
 use Rattle.radio_core.specs.SessionSteps.{Ends as ItEnds, IsRetitled, IsKilled as ItIsKilled, SessionsStep, KeepsSettings}
-use Rattle.radio_events.specs.declared.command.Command.{Command}
-use Rattle.radio_events.specs.declared.command.Command.TheVariants.{MoveClients, KillClient, KillSource, SetTitle as SetTitleOf, SetFallback, AddUser, DeleteUser}
-use Rattle.radio_parts.specs.Allowed.{IsCommanded}
-use Rattle.radio_core.specs.Sound.{IsSound}
-use Rattle.radio_parts_station.specs.Streams.{shown_for}
-use Rattle.radio_parts.specs.Step.{outcome, world_after}
-use Rattle.radio_parts.specs.Ways.{Way, Misplaced, IsFinished, IsDenied, IsRefused, IsAdmitted, Begins, ComesUp, Receives, SetsTitle, TakesSeat, HandsOut, Ends}
-use Rattle.radio_parts.specs.Ways.{EndsAndLeaves, Leaves, GoesDown, Obeys, Shows, HasPassed, Ticks}
-use Rattle.radio_parts_station.specs.World.{World, standing_of, standing_of_found, world}
-use Rattle.radio_parts.proofs.CalledStation.{station_called}
+use Rattle.radio_events.specs.declared.command.Command.TheVariants.{SetTitle as SetTitleOf}
 use Rattle.radio_core.proofs.Clients.Fates.{Fate, GoesOn, IsEnded, HasStopped, IsMoved, HasEnded, Nobody}
 use Rattle.radio_core.proofs.Kept.KeptSeats.{settings_stay}
 use Rattle.radio_core.proofs.Clients.Obeyed.{title_live as command_finds}
-use Rattle.radio_parts_mount.proofs.SessionLookups.{found_named, is_new_session, beside_begun, is_over, beside_ended}
 use Rattle.radio_core.proofs.Sessions.TickLemmas.{asking_at, ticked_fates}
 use Rattle.radio_parts_station.proofs.TimeoutLemmas.{tests_are_in_numbers}
-use Rattle.radio_parts.proofs.Ways.{way_of}
-use Rattle.radio_seats_rows.specs.Seats.{with_session_at}
 
 is_shown : (given : Option (List ℕ)) (own : List ℕ) → IsShownAs given own (unwrap_or given own)
 is_shown None own = OfTheSource refl

@@ -1,10 +1,6 @@
 -- which sessions are silent: when the first of them has ended, the others are left
 use Rattle.std.proofs.Common.{◌≡◌, Bool, List, ◌∷◌, sym, ◌∙◌}
-use Rattle.radio_parts_mount.specs.Sessions.{Session, AreApart}
-use Rattle.radio_parts_mount.specs.Timeouts.{is_silent}
-use Rattle.radio_parts_mount.proofs.SilentSessions.{found_first, others_left}
-use Rattle.radio_parts_changes.specs.Changes.{session_silenced, silent_in}
-use Rattle.radio_parts_station.specs.World.{World}
+use Rattle.radio_core.proofs.Words.{Session, AreApart, is_silent, found_first, others_left, session_silenced, silent_in, World}
 
 module _ (w : World) (session : Session) (apart : AreApart w.station.live) where
   abbrev silent : Session → Bool

@@ -1,38 +1,14 @@
 -- what the clock ends
 use Rattle.std.proofs.Common.{◌≡◌, Bool, true, false, ℕ, Option, Some, None, List, [], ◌∷◌, ◌++◌, append_assoc, refl, ap}
 use Rattle.std.proofs.Common.{sym, subst, ◌∙◌}
-use Rattle.std.specs.Prelude.{if◌then◌else◌, find, fold, map}
-use Rattle.std.specs.Option.{option_map}
+use Rattle.radio_core.proofs.Words.{if◌then◌else◌, find, fold, map, option_map, TimeOver, HeaderTimeout, SourceSilent, Peer, find_mapped, found_passes, Listener, Seat, listener_of, seat_of, ClientState, Listens, Ended}
+use Rattle.radio_core.proofs.Words.{Clock, Standing, Undecided, Feeds, Sits, Finished, session_over, session_ended, before_silence, silent_in, session_silenced, ticked, timed_out_by, Client, is_client, client_of}
+use Rattle.radio_core.proofs.Words.{with_client_state, Relay, relay_of, Cause, SessionIsOver, HasSatOut, HasAskedNothing, HasSentNothing, Brings, BySilence, TakesTo, Rule, Settings, Session, session_of, IsSound}
+use Rattle.radio_core.proofs.Words.{has_sat_out, is_silent, asks_nothing, asks_too_late, timed_out, World, standing_of, standing_of_found, found_own, is_over, found_first}
 use Rattle.std.proofs.lemmas.List.Sums.{fold-append}
-use Rattle.radio_policy.specs.declared.rule.Rule.TheVariants.{TimeOver, HeaderTimeout, SourceSilent}
-use Rattle.radio_addr.specs.declared.peer.Peer.{Peer}
-use Rattle.radio_tables.proofs.FindLaws.{find_mapped, found_passes}
-use Rattle.radio_seats_rows.specs.declared.seat.Listener.{Listener}
-use Rattle.radio_seats_rows.specs.declared.seat.Seat.{Seat}
-use Rattle.radio_seats_rows.specs.Seats.{listener_of, seat_of}
-use Rattle.radio_parts_station.specs.declared.clients.ClientState.{ClientState}
-use Rattle.radio_parts_station.specs.declared.clients.ClientState.TheVariants.{Undecided as IsNew, Feeds as IsSource, Listens, Answered as HasHisAnswer, Ended}
-use Rattle.radio_events.specs.declared.event.Event.TheVariants.{Clock}
-use Rattle.radio_parts_station.specs.declared.standing.Standing.{Standing}
-use Rattle.radio_parts_station.specs.declared.standing.Standing.TheVariants.{Undecided, Feeds, Sits, Finished}
-use Rattle.radio_parts_changes.specs.Changes.{session_over, session_ended, before_silence, silent_in, session_silenced, ticked}
-use Rattle.radio_parts_station.specs.StationChanges.{timed_out_by}
-use Rattle.radio_parts_station.specs.Clients.{Client, is_client, client_of, with_client_state}
-use Rattle.radio_parts_station.specs.Relays.{Relay, relay_of}
-use Rattle.radio_core.specs.Finishes.{Cause, SessionIsOver, HasSatOut, HasAskedNothing, HasSentNothing}
-use Rattle.radio_core.specs.Moves.{Brings, BySilence, TakesTo}
+use Rattle.radio_parts_station.specs.declared.clients.ClientState.TheVariants.{Undecided as IsNew, Feeds as IsSource, Answered as HasHisAnswer}
 use Rattle.radio_fallback.specs.declared.moves.Move.TheVariants.{Ended as SessionEnds}
-use Rattle.radio_policy.specs.declared.rule.Rule.{Rule}
-use Rattle.radio_settings_values.specs.declared.settings.Settings.{Settings}
-use Rattle.radio_parts_mount.specs.Sessions.{Session, session_of}
-use Rattle.radio_core.specs.Sound.{IsSound}
-use Rattle.radio_parts_mount.specs.Timeouts.{has_sat_out, is_silent}
-use Rattle.radio_parts_station.specs.Timeouts.{asks_nothing, asks_too_late, timed_out}
-use Rattle.radio_parts_station.specs.World.{World, standing_of, standing_of_found}
-use Rattle.radio_parts_mount.proofs.ApartLemmas.{found_own}
 use Rattle.radio_core.proofs.Clients.Fates.{IsActive, Fate, GoesOn, IsEnded, HasStopped, IsMoved, Fates, HasEnded, Nobody, feeds_on, sound_fates, fates_none, fates_then, seats_fates}
-use Rattle.radio_parts_mount.proofs.SessionLookups.{is_over}
-use Rattle.radio_parts_mount.proofs.SilentSessions.{found_first}
 use Rattle.radio_core.proofs.Sessions.SilentLemmas.{silent_then}
 use Rattle.radio_core.proofs.Sound.SoundEnds.{over_fates, late_beside, still_feeds, has_none_then, order_then}
 use Rattle.radio_core.proofs.Clients.Standings.{Turns, turns_ended_by}

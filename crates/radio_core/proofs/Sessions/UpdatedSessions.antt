@@ -1,12 +1,6 @@
 -- what is found where the session of a mount has changed
 use Rattle.std.proofs.Common.{◌≡◌, Bool, true, false, Option, Some, None, List, [], ◌∷◌, ℕ, refl, ap, sym, ◌∙◌}
-use Rattle.std.specs.Prelude.{if◌then◌else◌}
-use Rattle.std.specs.Option.{option_map}
-use Rattle.std.specs.Str.{bytes_eq}
-use Rattle.radio_tables.specs.Lists.{update_first}
-use Rattle.radio_tables.proofs.FindLaws.{find_here, find_later}
-use Rattle.radio_tables.proofs.KeyLaws.{by_name}
-use Rattle.radio_parts_mount.specs.Sessions.{Session, is_of, session_of}
+use Rattle.radio_core.proofs.Words.{if◌then◌else◌, option_map, bytes_eq, update_first, find_here, find_later, by_name, Session, is_of, session_of}
 
 module _ (live : List Session) (mount : List ℕ) (f : Session → Session) (same_test : (x : Session) → is_of mount (f x) ≡ is_of mount x) where
   updated_at : (x : Session) (xs : List Session) (his : Bool) → is_of mount x ≡ his

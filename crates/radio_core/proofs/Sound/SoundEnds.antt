@@ -1,46 +1,17 @@
 -- how each client fares where a session ends, and what holds of every state of a run holds still
 use Rattle.std.proofs.Common.{◌≡◌, Bool, true, false, ℕ, ◌==◌, Option, Some, None, List, refl, ap, sym, subst, ◌∙◌, arith}
-use Rattle.std.specs.Prelude.{not}
-use Rattle.std.specs.Str.{bytes_eq}
-use Rattle.std.proofs.lemmas.Bool.Decides.{nat_tests}
-use Rattle.std.proofs.lemmas.Slice.Eq.{bytes_eq-Decides}
-use Rattle.radio_policy.specs.declared.rule.Rule.{Rule}
-use Rattle.radio_tables.proofs.KeyLaws.{by_number, by_name}
+use Rattle.radio_core.proofs.Words.{not, bytes_eq, nat_tests, bytes_eq-Decides, Rule, by_number, by_name, Move, Stays, GoesTo, IsOut, Faring, HasStayed, HasGone, HasLost, fares, nobody_stays, Event, SourceEnd, client_in}
+use Rattle.radio_core.proofs.Words.{ClientState, End, EndAndLeave, Seat, Standing, Unknown, Feeds, Sits, Answered, World, standing_of, has_relay, changed, carried_along, session_over, session_ended, Client, client_of}
+use Rattle.radio_core.proofs.Words.{with_client_state, in_state, Closes, sight_of, Cause, SessionIsOver, his_turn, ByItsEnd, ByItsLeaving, TakesTo, seat_of, seat_in, AreByNumber, Session, is_of, session_of}
+use Rattle.radio_core.proofs.Words.{without_session, AreApart, IsSound, asks_too_late, beside_left, is_no_listener, kept_apart, bytes_apart, beside_ended, is_over, beside_state, beside_forgotten, does, still_none}
+use Rattle.radio_core.proofs.Words.{is_no_client, order_left, heard_same}
 use Rattle.radio_fallback.specs.declared.moves.Move.TheVariants.{Ended as SessionEnds}
-use Rattle.radio_fallback.specs.declared.moves.Move.{Move}
-use Rattle.radio_fallback.specs.declared.moves.MoveEffect.TheVariants.{Stays, GoesTo, IsOut}
-use Rattle.radio_fallback.proofs.Faring.{Faring, HasStayed, HasGone, HasLost, fares, nobody_stays}
-use Rattle.radio_events.specs.declared.event.Event.{Event}
-use Rattle.radio_events.specs.declared.event.Event.TheVariants.{SourceEnd}
-use Rattle.radio_events.specs.Events.{client_in}
-use Rattle.radio_parts_station.specs.declared.clients.ClientState.{ClientState}
 use Rattle.radio_parts_station.specs.declared.clients.ClientState.TheVariants.{Answered as HasHisAnswer}
-use Rattle.radio_parts_changes.specs.declared.change.Change.TheVariants.{End, EndAndLeave}
-use Rattle.radio_seats_rows.specs.declared.seat.Seat.{Seat}
-use Rattle.radio_parts_station.specs.declared.standing.Standing.{Standing}
-use Rattle.radio_parts_station.specs.declared.standing.Standing.TheVariants.{Unknown, Feeds, Sits, Answered}
-use Rattle.radio_parts_station.specs.World.{World, standing_of, has_relay}
-use Rattle.radio_parts_changes.specs.Changes.{changed, carried_along, session_over, session_ended}
-use Rattle.radio_parts_station.specs.Clients.{Client, client_of, with_client_state, in_state}
-use Rattle.radio_parts.specs.Closing.{Closes}
-use Rattle.radio_parts_station.specs.Facts.{sight_of}
-use Rattle.radio_core.specs.Finishes.{Cause, SessionIsOver}
-use Rattle.radio_core.specs.Moves.{his_turn, ByItsEnd, ByItsLeaving, TakesTo}
-use Rattle.radio_seats_rows.specs.Seats.{seat_of, seat_in, AreByNumber}
-use Rattle.radio_parts_mount.specs.Sessions.{Session, is_of, session_of, without_session, AreApart}
-use Rattle.radio_core.specs.Sound.{IsSound}
-use Rattle.radio_parts_station.specs.Timeouts.{asks_too_late}
-use Rattle.radio_seats_rows.proofs.SeatLaws.{beside_left, is_no_listener}
-use Rattle.radio_parts_mount.proofs.ApartLemmas.{kept_apart, bytes_apart}
 use Rattle.radio_core.proofs.Clients.CarriedFates.{order_carried, carried_fate}
 use Rattle.radio_core.proofs.Clients.Fates.{IsDone, Fate, GoesOn, HasStopped, Fates, HasEnded, sound_fates}
-use Rattle.radio_parts_mount.proofs.SessionLookups.{beside_ended, is_over}
-use Rattle.radio_parts_station.proofs.Lookups.{beside_state, beside_forgotten, does, still_none, is_no_client}
 use Rattle.radio_core.proofs.Clients.ClosingLemmas.{closes_his}
-use Rattle.radio_parts_mount.proofs.NumberOrder.{order_left}
 use Rattle.radio_core.proofs.Clients.Standings.{Turns, is_client_there, turns_answered, turns_forgotten, feeds_whoever_sits}
 use Rattle.radio_core.proofs.Seats.HeardApart.{sits_past_zero}
-use Rattle.radio_parts.proofs.HeardLemmas.{heard_same}
 
 -- who has no seat has none when a move has carried the others along
 pub no_seat_carried : (w : World) (move : Move) → AreByNumber w.seats → (id : ℕ) → seat_of w.seats id ≡ None → seat_of (carried_along w move).seats id ≡ None

@@ -1,39 +1,16 @@
 -- every state of a run is sound
 use Rattle.std.proofs.Common.{◌≡◌, ℕ, List, [], ◌∷◌, refl, ap, sym, subst, ◌∙◌}
-use Rattle.std.specs.Str.{bytes_eq}
-use Rattle.std.proofs.lemmas.Bool.{and_parts}
-use Rattle.std.proofs.lemmas.Slice.Eq.{bytes_eq-Decides}
-use Rattle.radio_policy.specs.declared.rule.Rule.TheVariants.{Lagged}
-use Rattle.radio_settings_values.specs.declared.settings.Settings.{Settings}
-use Rattle.radio_access.specs.Lists.{Lists}
-use Rattle.radio_events.specs.declared.event.Event.{Event}
-use Rattle.radio_events.specs.declared.event.Event.TheVariants.{Push}
-use Rattle.radio_parts_station.specs.declared.standing.Standing.TheVariants.{Feeds}
-use Rattle.radio_parts.specs.declared.outcome.Outcome.{Outcome}
-use Rattle.radio_parts_station.specs.World.{World, opening, standing_of}
-use Rattle.radio_parts_changes.specs.Changes.{changed, laggards_ended, block_received, ticked}
-use Rattle.radio_parts_changes.proofs.PartChanges.{is_taken_in}
-use Rattle.radio_parts_station.specs.StationChanges.{received}
-use Rattle.radio_parts_station.specs.Facts.{live_end}
-use Rattle.radio_core.specs.Finishes.{Cause, IsFarBehind}
-use Rattle.radio_parts_mount.specs.Sessions.{Session}
-use Rattle.radio_parts_mount.specs.Timeouts.{lags_behind}
-use Rattle.radio_core.specs.Run.{world_after_all, run_after}
-use Rattle.radio_core.specs.Sound.{IsSound}
-use Rattle.radio_parts_station.specs.Streams.{shown_for}
-use Rattle.radio_parts.specs.Step.{outcome, world_after}
-use Rattle.radio_parts.specs.Ways.{Way, Misplaced, IsFinished, IsDenied, IsRefused, IsAdmitted, Begins, ComesUp, Receives, SetsTitle, TakesSeat, HandsOut, Ends}
-use Rattle.radio_parts.specs.Ways.{EndsAndLeaves, Leaves, GoesDown, Obeys, Shows, HasPassed, Ticks}
+use Rattle.radio_core.proofs.Words.{bytes_eq, and_parts, bytes_eq-Decides, Lagged, Settings, Lists, Event, Push, Feeds, Outcome, World, opening, standing_of, changed, laggards_ended, block_received, ticked, is_taken_in}
+use Rattle.radio_core.proofs.Words.{received, live_end, Cause, IsFarBehind, Session, lags_behind, world_after_all, run_after, IsSound, shown_for, outcome, world_after, Way, Misplaced, IsFinished, IsDenied, IsRefused}
+use Rattle.radio_core.proofs.Words.{IsAdmitted, Begins, ComesUp, Receives, SetsTitle, TakesSeat, HandsOut, Ends, EndsAndLeaves, Leaves, GoesDown, Obeys, Shows, HasPassed, Ticks, in_order, way_of}
 use Rattle.radio_core.proofs.Sound.Soundness.{sound_answered, sound_forgotten, sound_admitted, sound_sits}
 use Rattle.radio_core.proofs.Clients.CalledHome.{sound_up, sound_risen}
 use Rattle.radio_core.proofs.Sound.SoundSessions.{sound_grown, sound_heard}
-use Rattle.radio_parts_mount.proofs.NumberOrder.{in_order}
 use Rattle.radio_core.proofs.Sound.SoundTitles.{sound_titled}
 use Rattle.radio_core.proofs.Clients.Fates.{Fates, HasEnded, Nobody, sound_fates, seats_fates}
 use Rattle.radio_core.proofs.Sessions.TickLemmas.{ClockCause, ClockCarries, ticked_fates}
 use Rattle.radio_core.proofs.Sound.SoundEnds.{sound_ended, sound_ended_and_left}
 use Rattle.radio_core.proofs.Clients.Obeyed.{sound_obeyed}
-use Rattle.radio_parts.proofs.Ways.{way_of}
 
 -- a block has come, and who is too far behind has lost its seat
 abbrev pub grown_world : World → List ℕ → List ℕ → World

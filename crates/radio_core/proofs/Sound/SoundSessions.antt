@@ -1,38 +1,13 @@
 -- what holds of every state of a run holds still after what sessions do
 use Rattle.std.proofs.Common.{◌≡◌, true, false, ℕ, ◌+◌, ◌<◌, ◌≤◌, ◌==◌, Option, Some, None, List, length, drop, refl, ap, sym, subst, ◌∙◌, arith, length-append, Bool}
-use Rattle.std.specs.Str.{bytes_eq}
-use Rattle.std.proofs.lemmas.List.{length-take, length-drop}
-use Rattle.std.proofs.lemmas.Bool.Decides.{nat_tests}
-use Rattle.std.proofs.lemmas.Slice.Eq.{bytes_eq-Decides}
-use Rattle.radio_addr.specs.declared.peer.Peer.{Peer}
-use Rattle.radio_values.specs.declared.field.Shown.{Shown}
-use Rattle.radio_tables.proofs.KeyLaws.{by_number, by_name}
-use Rattle.radio_parts_changes.specs.declared.change.Change.TheVariants.{Advance}
-use Rattle.radio_seats_rows.specs.declared.seat.Seat.{Seat}
-use Rattle.radio_seats_rows.specs.declared.seat.Seating.{Seating}
+use Rattle.radio_core.proofs.Words.{bytes_eq, length-take, length-drop, nat_tests, bytes_eq-Decides, Peer, Shown, by_number, by_name, Advance, Seat, Seating, Unknown, Undecided, Feeds, Sits, StationState, World}
+use Rattle.radio_core.proofs.Words.{standing_of, changed, session_begun, session_raised, begun, raised, received, seat_of, seat_in, seat_held, heard_to, with_session_at, Session, AreApart, is_of, session_of, opened}
+use Rattle.radio_core.proofs.Words.{with_session, longer, AreRising, end_of, data_at, IsSeatedIn, IsSound, beside_moved, has_moved, begun_apart, updated_apart, bytes_apart, order_heard, same_order, beside_fed, is_longer}
+use Rattle.radio_core.proofs.Words.{is_new_session, beside_begun, listener_seated, rising_more, heard_at, numbers_hearing, heard_cases, heard_live, heard_same, if◌then◌else◌}
 use Rattle.radio_seats_rows.specs.declared.seat.Seating.TheVariants.{Sits as HasSeat, Finished as HasFinished}
-use Rattle.radio_parts_station.specs.declared.standing.Standing.TheVariants.{Unknown, Undecided, Feeds, Sits}
-use Rattle.radio_parts_station.specs.StationState.{StationState}
-use Rattle.radio_parts_station.specs.World.{World, standing_of}
-use Rattle.radio_parts_changes.specs.Changes.{changed, session_begun, session_raised}
-use Rattle.radio_parts_station.specs.StationChanges.{begun, raised, received}
-use Rattle.radio_seats_rows.specs.Seats.{seat_of, seat_in, seat_held, heard_to, with_session_at}
-use Rattle.radio_parts_mount.specs.Sessions.{Session, AreApart, is_of, session_of, opened, with_session, longer}
-use Rattle.radio_parts_mount.specs.Stream.{AreRising, end_of, data_at}
-use Rattle.radio_core.specs.Sound.{IsSeatedIn, IsSound}
-use Rattle.radio_seats_rows.proofs.SeatLaws.{beside_moved, has_moved}
-use Rattle.radio_parts_mount.proofs.ApartLemmas.{begun_apart, updated_apart, bytes_apart}
-use Rattle.radio_parts_mount.proofs.NumberOrder.{order_heard, same_order}
-use Rattle.radio_parts_mount.proofs.SessionLookups.{beside_fed, is_longer, is_new_session, beside_begun}
-use Rattle.radio_seats_rows.proofs.SeatLaws.{listener_seated}
 use Rattle.radio_core.proofs.Clients.Standings.{Turns, asks, turns_feeding, turns_raised, stays_hearing, turns_given}
-use Rattle.radio_parts_mount.proofs.RisingLemmas.{rising_more}
 use Rattle.radio_core.proofs.Sound.Soundness.{IsLiveStill, seated_still, seated_beside}
-use Rattle.radio_parts_station.specs.Waiting.{heard_at}
-use Rattle.radio_seats_rows.proofs.GivenLaws.{numbers_hearing}
 use Rattle.radio_core.proofs.Seats.GivenSeats.{given_from}
-use Rattle.radio_parts.proofs.HeardLemmas.{heard_cases, heard_live, heard_same}
-use Rattle.std.specs.Prelude.{if◌then◌else◌}
 
 -- the names of the mount are the same
 same_names : (mount other : List ℕ) → mount ≡ other → bytes_eq mount other ≡ true

@@ -1,16 +1,8 @@
 -- what holds of every state of a run holds still when a source has set a title
 use Rattle.std.proofs.Common.{◌≡◌, false, ℕ, Some, List, refl, ap, sym, subst, ◌∙◌, arith}
-use Rattle.std.specs.Str.{bytes_eq}
-use Rattle.radio_tables.proofs.KeyLaws.{by_name}
+use Rattle.radio_core.proofs.Words.{bytes_eq, by_name, Feeds, World, standing_of, changed, Session, AreApart, is_of, session_of, with_title, AreRising, WholeStream, end_of, IsSound, updated_apart, is_on_air}
+use Rattle.radio_core.proofs.Words.{on_air_there, on_air_beside}
 use Rattle.radio_parts_changes.specs.declared.change.Change.TheVariants.{SetTitle}
-use Rattle.radio_parts_station.specs.declared.standing.Standing.TheVariants.{Feeds}
-use Rattle.radio_parts_station.specs.World.{World, standing_of}
-use Rattle.radio_parts_changes.specs.Changes.{changed}
-use Rattle.radio_parts_mount.specs.Sessions.{Session, AreApart, is_of, session_of, with_title}
-use Rattle.radio_parts_mount.specs.Stream.{AreRising, WholeStream, end_of}
-use Rattle.radio_core.specs.Sound.{IsSound}
-use Rattle.radio_parts_mount.proofs.ApartLemmas.{updated_apart}
-use Rattle.radio_parts_changes.proofs.PartChanges.{is_on_air, on_air_there, on_air_beside}
 use Rattle.radio_core.proofs.Sound.Soundness.{IsLiveStill, seated_beside}
 
 -- a session is as it was, but that it may have another title

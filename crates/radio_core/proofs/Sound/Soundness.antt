@@ -1,29 +1,9 @@
 -- what holds of every state of a run holds still after each event
 use Rattle.std.proofs.Common.{◌≡◌, true, false, ℕ, ◌+◌, ◌<◌, ◌≤◌, ◌==◌, Option, Some, None, List, refl, ap, sym, subst, ◌∙◌, arith}
-use Rattle.std.specs.Str.{bytes_eq}
-use Rattle.std.proofs.lemmas.Bool.Decides.{nat_tests}
-use Rattle.radio_addr.specs.declared.peer.Peer.{Peer}
-use Rattle.radio_tables.proofs.KeyLaws.{by_number, by_name}
-use Rattle.radio_events.specs.declared.event.ListenRequest.{ListenRequest}
-use Rattle.radio_parts_changes.specs.declared.change.Change.TheVariants.{Answer, Admit, TakeSeat, Forget}
-use Rattle.radio_seats_rows.specs.declared.seat.Seat.{Seat}
-use Rattle.radio_parts_station.specs.declared.standing.Standing.{Standing}
-use Rattle.radio_parts_station.specs.declared.standing.Standing.TheVariants.{Unknown, Undecided, Feeds, Sits, Answered}
-use Rattle.radio_parts_station.specs.StationState.{StationState}
-use Rattle.radio_parts_station.specs.World.{World, standing_of}
-use Rattle.radio_parts_changes.specs.Changes.{changed}
-use Rattle.radio_parts.specs.Listen.{first_seat}
-use Rattle.radio_parts_facts.specs.Streams.{burst_of}
-use Rattle.radio_seats_rows.specs.Seats.{seat_of, seat_in, without_listener, AreByNumber}
-use Rattle.radio_parts_mount.specs.Sessions.{Session, session_of, AreApart}
-use Rattle.radio_core.specs.Sound.{IsSeatedIn, IsSound}
-use Rattle.radio_seats_rows.proofs.SeatLaws.{beside_left, beside_seated, is_no_listener, has_sat_down}
-use Rattle.radio_parts_mount.proofs.RisingLemmas.{burst_within}
-use Rattle.radio_parts_mount.proofs.NumberOrder.{order_left, order_seated}
+use Rattle.radio_core.proofs.Words.{bytes_eq, nat_tests, Peer, by_number, by_name, ListenRequest, Answer, Admit, TakeSeat, Forget, Seat, Standing, Unknown, Undecided, Feeds, Sits, Answered, StationState, World}
+use Rattle.radio_core.proofs.Words.{standing_of, changed, first_seat, burst_of, seat_of, seat_in, without_listener, AreByNumber, Session, session_of, AreApart, IsSeatedIn, IsSound, beside_left, beside_seated}
+use Rattle.radio_core.proofs.Words.{is_no_listener, has_sat_down, burst_within, order_left, order_seated, heard_at, AreRising, end_of, heard_cases, heard_live, heard_same}
 use Rattle.radio_core.proofs.Clients.Standings.{Turns, asks, turns_answered, turns_sitting, turns_forgotten, turns_admitted}
-use Rattle.radio_parts_station.specs.Waiting.{heard_at}
-use Rattle.radio_parts_mount.specs.Stream.{AreRising, end_of}
-use Rattle.radio_parts.proofs.HeardLemmas.{heard_cases, heard_live, heard_same}
 
 -- the mount has a session that is fed by the same source and goes as far
 abbrev pub IsLiveStill : StationState → List ℕ → Session → Type 0

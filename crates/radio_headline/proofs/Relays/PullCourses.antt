@@ -1,23 +1,7 @@
 -- The whole course of a relay's pull.
 use Rattle.std.proofs.Common.{◌≡◌, inl, inr, ℕ, true, false, List, [], ◌∷◌, ◌++◌, Option, None, refl, sym, ap, subst, ◌∙◌, append_assoc}
-use Rattle.std.specs.List.{concat}
-use Rattle.std.proofs.lemmas.List.{append-nil}
-use Rattle.radio_blocks.specs.Cutting.{blocks_of}
-use Rattle.radio_events.specs.declared.entry.Entry.{Entry}
-use Rattle.radio_events.specs.declared.event.Event.TheVariants.{RelayUp}
-use Rattle.radio_events.specs.declared.state.State.{State}
-use Rattle.radio_events.specs.declared.state.State.TheVariants.{Running, Shut}
-use Rattle.radio_events.specs.Events.{entry}
-use Rattle.radio_heads.specs.Laws.{IsStableReading, HeadsLieWithin}
-use Rattle.radio_heads.specs.Response.{ShowsResponse}
-use Rattle.radio_relay.specs.Answer.{shown_in_response}
-use Rattle.radio_relay.proofs.CutLemmas.{AfterPieces, HeardInPieces}
-use Rattle.radio_relay.specs.Applied.{AreAtMostOfTurn, AreOfTurn, IsGoingDown, PullCourse, PullSoFar, begins, goes_down, has_turn, is_refused}
-use Rattle.radio_relay.specs.Applied.{number_after}
-use Rattle.radio_relay.specs.Pulling.{is_shut}
-use Rattle.radio_relay.specs.Pulling.{Pulling}
-use Rattle.radio_answers.specs.declared.web_answers.WebAnswers.{WebAnswers}
-use Rattle.radio_headline.specs.Sources.{pushed}
+use Rattle.radio_headline.proofs.Words.{concat, append-nil, blocks_of, Entry, RelayUp, State, Running, Shut, entry, IsStableReading, HeadsLieWithin, ShowsResponse, shown_in_response, AfterPieces, HeardInPieces}
+use Rattle.radio_headline.proofs.Words.{AreAtMostOfTurn, AreOfTurn, IsGoingDown, PullCourse, PullSoFar, begins, goes_down, has_turn, is_refused, number_after, is_shut, Pulling, WebAnswers, pushed}
 use Rattle.radio_headline.proofs.Logs.{Each, each_first, each_joined}
 use Rattle.radio_headline.proofs.Relays.RelayWords.{IsCut, IsGoing, IsNoUp, OwnRelay, number_joined, own_joined}
 use Rattle.radio_headline.proofs.Connections.{AtAnswer, IsClosed, IsRelay, Pulls, RelayStage, events_of}

@@ -1,23 +1,9 @@
 -- The entries of a relay: of one event, of items, and of its going down.
 use Rattle.std.proofs.Common.{◌≡◌, ◌⊎◌, ℕ, List, [], ◌∷◌, ◌++◌, Option, None, Some, inl, inr, refl, sym, ap, subst, ◌∙◌, append_assoc}
 use Rattle.std.specs.Option.{option_map}
-use Rattle.std.specs.List.{flat_map}
-use Rattle.std.proofs.lemmas.List.{append-nil}
-use Rattle.radio_values.specs.declared.field.Shown.{Shown}
-use Rattle.radio_events.specs.declared.entry.Entry.{Entry}
-use Rattle.radio_events.specs.declared.event.Event.{Event}
-use Rattle.radio_events.specs.declared.event.Event.TheVariants.{RelayUp, RelayDown}
-use Rattle.radio_events.specs.declared.reply.Reply.{Reply}
-use Rattle.radio_events.specs.declared.state.State.{State}
-use Rattle.radio_events.specs.declared.state.State.TheVariants.{Running, Shut}
-use Rattle.radio_events.specs.declared.state.Ending.{Ending}
-use Rattle.radio_events.specs.Events.{entry}
-use Rattle.radio_relay.specs.declared.items.PullItem.{PullItem}
-use Rattle.radio_relay.specs.declared.items.PullItem.TheVariants.{Up, Sound, Title as Named}
-use Rattle.radio_relay.specs.Applied.{AreOfEvent, AreOfEventIf, AreOfItems, IsDownIfShut, IsGoingDown, number_after}
-use Rattle.radio_relay.specs.Course.{Follows}
-use Rattle.radio_relay.specs.Pulling.{NumberedState, state_after_reply, event_of, running_pull, shut_by}
-use Rattle.radio_headline.specs.Sources.{pushed, pushed_by}
+use Rattle.radio_headline.proofs.Words.{flat_map, append-nil, Shown, Entry, Event, RelayUp, RelayDown, Reply, State, Running, Shut, Ending, entry, PullItem, Up, Sound, AreOfEvent, AreOfEventIf, AreOfItems, IsDownIfShut}
+use Rattle.radio_headline.proofs.Words.{IsGoingDown, number_after, Follows, NumberedState, state_after_reply, event_of, running_pull, shut_by, pushed, pushed_by}
+use Rattle.radio_relay.specs.declared.items.PullItem.TheVariants.{Title as Named}
 use Rattle.radio_headline.proofs.Logs.{Each, each_joined}
 use Rattle.radio_headline.proofs.Relays.RelayWords.{AreNoUps, IsCut, IsGoing, IsNoUp, IsNotRefused, OfRelay, OwnRelay}
 use Rattle.radio_headline.proofs.Relays.RelayWords.{cut_joined, number_joined, number_stays, own_joined, refused_shuts}

@@ -1,30 +1,12 @@
 -- The parts and items of a master's answer, and more bytes of it.
 use Rattle.std.proofs.Common.{◌≡◌, ℕ, List, [], ◌∷◌, ◌++◌, drop, Option, None, Some, Ok, refl, sym, ap, ◌∙◌, append_assoc}
-use Rattle.std.specs.Prelude.{map}
-use Rattle.std.specs.List.{concat}
-use Rattle.std.proofs.lemmas.List.{append-nil, drop-append-le}
-use Rattle.std.proofs.lemmas.List.Concat.{flat_map-append}
-use Rattle.radio_blocks.specs.Cutting.{blocks_of}
-use Rattle.radio_values.specs.declared.field.Shown.{Shown}
+use Rattle.radio_headline.proofs.Words.{map, concat, append-nil, drop-append-le, flat_map-append, blocks_of, Shown, Entry, RelayUp, Whole, IsStableReading, HeadsLieWithin, IsReading, ResponseParts, ShowsResponse}
+use Rattle.radio_headline.proofs.Words.{shown_in_response, Gathered, all_items, items_of, nothing_gathered, with_gathered_part, with_parts, sound_of_parts, PulledPart, ShownPart, SoundPart, TitlePart, parts_heard}
+use Rattle.radio_headline.proofs.Words.{stream_parts, stream_with, title_parts, PullItem, Up, Sound, PulledStream, AfterPieces, HeardInPieces, parts-cut, pushed}
 use Rattle.radio_icy.specs.Unweaving.{StreamItem, SoundByte, WholeText, atoms_of_piece}
 use Rattle.radio_icy.specs.Titles.{title_of}
-use Rattle.radio_events.specs.declared.entry.Entry.{Entry}
-use Rattle.radio_events.specs.declared.event.Event.TheVariants.{RelayUp}
-use Rattle.radio_heads.specs.declared.outcome.Progress.TheVariants.{Whole}
-use Rattle.radio_heads.specs.Laws.{IsStableReading, HeadsLieWithin}
-use Rattle.radio_heads.specs.Reading.{IsReading}
-use Rattle.radio_heads.specs.Response.{ResponseParts, ShowsResponse}
-use Rattle.radio_relay.specs.Answer.{shown_in_response}
-use Rattle.radio_relay.specs.Items.{Gathered, all_items, items_of, nothing_gathered, with_gathered_part, with_parts}
-use Rattle.radio_relay.specs.Laws.{sound_of_parts}
-use Rattle.radio_relay.specs.Pulled.{PulledPart, ShownPart, SoundPart, TitlePart}
-use Rattle.radio_relay.specs.Pulled.{parts_heard, stream_parts, stream_with, title_parts}
-use Rattle.radio_relay.specs.declared.items.PullItem.{PullItem}
-use Rattle.radio_relay.specs.declared.items.PullItem.TheVariants.{Up, Sound, Title as Named}
-use Rattle.radio_relay.specs.declared.stream.PulledStream.{PulledStream}
+use Rattle.radio_relay.specs.declared.items.PullItem.TheVariants.{Title as Named}
 use Rattle.radio_relay.specs.declared.stream.PulledStream.TheVariants.{Plain, Woven}
-use Rattle.radio_relay.proofs.CutLemmas.{AfterPieces, HeardInPieces, parts-cut}
-use Rattle.radio_headline.specs.Sources.{pushed}
 use Rattle.radio_headline.proofs.Logs.{Each}
 use Rattle.radio_headline.proofs.Relays.RelayWords.{AreNoUps, IsCut, IsNoUp, OwnRelay}
 use Rattle.radio_headline.proofs.Relays.PullEntries.{sound_of_item, sound_of_items}

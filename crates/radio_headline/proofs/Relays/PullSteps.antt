@@ -1,30 +1,8 @@
 -- A relay's connection in a script after something arrives on it.
 use Rattle.std.proofs.Common.{◌≡◌, ℕ, List, [], ◌++◌, Some, refl}
 use Rattle.std.specs.Option.{option_map}
-use Rattle.std.specs.List.{concat}
-use Rattle.radio_blocks.specs.Cutting.{blocks_of}
-use Rattle.radio_events.specs.declared.entry.Entry.{Entry}
-use Rattle.radio_events.specs.declared.event.Event.{Event}
-use Rattle.radio_events.specs.declared.state.State.{State}
-use Rattle.radio_events.specs.declared.state.State.TheVariants.{Running, Shut}
-use Rattle.radio_events.specs.declared.state.Ending.{Ending}
-use Rattle.radio_core.specs.Run.{world_after_all}
-use Rattle.radio_parts.specs.Step.{Step}
-use Rattle.radio_parts_station.specs.World.{World}
-use Rattle.radio_heads.specs.Head.{ShowsRequest}
-use Rattle.radio_heads.specs.Laws.{IsStableReading, HeadsLieWithin}
-use Rattle.radio_heads.specs.Response.{ShowsResponse}
-use Rattle.radio_relay.specs.Items.{items_of}
-use Rattle.radio_relay.proofs.CutLemmas.{AfterPieces, HeardInPieces}
-use Rattle.radio_relay.specs.Applied.{AreOfEventIf, IsGoingDown}
-use Rattle.radio_relay.specs.Course.{Takes}
-use Rattle.radio_relay.specs.Pulling.{Pulling, NumberedState, shut_by}
-use Rattle.radio_script.specs.declared.delivery.Input.TheVariants.{Data}
-use Rattle.radio_floor.specs.declared.labelled.Connection.TheVariants.{Relay}
-use Rattle.radio_floor.specs.ScriptState.{connection_unless}
-use Rattle.radio_source.specs.Place.{Place, after, data_of}
-use Rattle.radio_headline.specs.Course.{ComesToNoted}
-use Rattle.radio_headline.specs.Sources.{pushed_by}
+use Rattle.radio_headline.proofs.Words.{concat, blocks_of, Entry, Event, State, Running, Shut, Ending, world_after_all, Step, World, ShowsRequest, IsStableReading, HeadsLieWithin, ShowsResponse, items_of, AfterPieces}
+use Rattle.radio_headline.proofs.Words.{HeardInPieces, AreOfEventIf, IsGoingDown, Takes, Pulling, NumberedState, shut_by, Data, Relay, connection_unless, Place, after, data_of, ComesToNoted, pushed_by, WebAnswers}
 use Rattle.radio_headline.proofs.Logs.{entries}
 use Rattle.radio_headline.proofs.Relays.RelayLogs.{at, comes_lifts}
 use Rattle.radio_headline.proofs.Relays.RelayWords.{IsNoUp, OfRelay}
@@ -34,7 +12,6 @@ use Rattle.radio_headline.proofs.OwnLogs.{relay_owns}
 use Rattle.radio_headline.proofs.Relays.PullEntries.{down_brought, downs, event_brought, plain_event}
 use Rattle.radio_headline.proofs.Relays.PullParts.{more_pulled}
 use Rattle.radio_headline.proofs.Relays.PullTurns.{IsStill, facts_of, idles_on, takes_on}
-use Rattle.radio_answers.specs.declared.web_answers.WebAnswers.{WebAnswers}
 
 module _ (web : WebAnswers) (settled : IsStableReading ShowsResponse) (within : HeadsLieWithin ShowsResponse)
     (joined : (bytes : List ℕ) → concat (blocks_of bytes) ≡ bytes) (none_blocks : blocks_of [] ≡ []) (in_pieces : HeardInPieces) (afters : AfterPieces) where

@@ -1,37 +1,13 @@
 -- What a relay's connection is after more entries: of bytes of the master's answer, or of a single event.
 use Rattle.std.proofs.Common.{◌≡◌, ◌⊎◌, inl, inr, ℕ, List, [], ◌∷◌, ◌++◌, drop, Option, None, Result, Ok, Err}
 use Rattle.std.proofs.Common.{refl, sym, ap, subst, ◌∙◌, append_assoc}
-use Rattle.std.specs.List.{concat}
-use Rattle.std.proofs.lemmas.List.{append-nil}
-use Rattle.radio_blocks.specs.Cutting.{blocks_of}
-use Rattle.radio_events.specs.declared.entry.Entry.{Entry}
-use Rattle.radio_events.specs.declared.event.Event.{Event}
-use Rattle.radio_events.specs.declared.event.Event.TheVariants.{Arrive, Source, Push, SourceEnd, Title, Listen, Draw, Command, Leave, RelayUp, RelayDown, Clock}
-use Rattle.radio_events.specs.declared.state.State.{State}
-use Rattle.radio_events.specs.declared.state.State.TheVariants.{Running, Shut}
-use Rattle.radio_events.specs.declared.state.Ending.TheVariants.{BadPull}
-use Rattle.radio_heads.specs.declared.outcome.Progress.{Progress}
-use Rattle.radio_heads.specs.declared.outcome.Progress.TheVariants.{More, Whole}
-use Rattle.radio_heads.specs.declared.outcome.HeadFault.{HeadFault}
-use Rattle.radio_heads.specs.Laws.{IsStableReading, HeadsLieWithin}
-use Rattle.radio_heads.specs.Reading.{IsReading}
-use Rattle.radio_heads.specs.Response.{ResponseParts, ShowsResponse}
-use Rattle.radio_relay.specs.Answer.{interval_in, shown_in_response}
-use Rattle.radio_relay.specs.Items.{items_of, nothing_gathered}
-use Rattle.radio_relay.specs.Laws.{sound_of_parts}
-use Rattle.radio_relay.specs.Pulled.{IsPulledAt, PulledPart, Pulled, ShownPart}
-use Rattle.radio_relay.specs.Pulled.{after_bytes, goes_on, pulled_as, pulled_by_interval, stops, stream_parts, stream_pulled, stream_with}
+use Rattle.radio_headline.proofs.Words.{concat, append-nil, blocks_of, Entry, Event, Arrive, Source, Push, SourceEnd, Title, Listen, Draw, Command, Leave, RelayUp, RelayDown, Clock, State, Running, Shut, BadPull}
+use Rattle.radio_headline.proofs.Words.{Progress, More, Whole, HeadFault, IsStableReading, HeadsLieWithin, IsReading, ResponseParts, ShowsResponse, interval_in, shown_in_response, items_of, nothing_gathered}
+use Rattle.radio_headline.proofs.Words.{sound_of_parts, IsPulledAt, PulledPart, Pulled, ShownPart, after_bytes, goes_on, pulled_as, pulled_by_interval, stops, stream_parts, stream_pulled, stream_with, PullItem, Up, Head}
+use Rattle.radio_headline.proofs.Words.{Behind, AfterPieces, HeardInPieces, after-cut, AreOfBytes, AreOfItems, AreOfPulled, AreOfTurn, number_after, Pulling, NumberedState, WebAnswers, pushed}
 use Rattle.radio_relay.specs.declared.fault.PullFault.{PullFault}
 use Rattle.radio_relay.specs.declared.fault.PullFault.TheVariants.{BadHead}
-use Rattle.radio_relay.specs.declared.items.PullItem.{PullItem}
-use Rattle.radio_relay.specs.declared.items.PullItem.TheVariants.{Up}
 use Rattle.radio_relay.specs.declared.pull.PullStage.{PullStage}
-use Rattle.radio_relay.specs.declared.pull.PullStage.TheVariants.{Head, Behind}
-use Rattle.radio_relay.proofs.CutLemmas.{AfterPieces, HeardInPieces, after-cut}
-use Rattle.radio_relay.specs.Applied.{AreOfBytes, AreOfItems, AreOfPulled, AreOfTurn, number_after}
-use Rattle.radio_relay.specs.Pulling.{Pulling, NumberedState}
-use Rattle.radio_answers.specs.declared.web_answers.WebAnswers.{WebAnswers}
-use Rattle.radio_headline.specs.Sources.{pushed}
 use Rattle.radio_headline.proofs.Logs.{Each, each_joined}
 use Rattle.radio_headline.proofs.Relays.RelayWords.{AreNoUps, IsCut, IsNoUp, IsNotRefused, OfRelay, OwnRelay, cut_joined, number_joined, own_joined}
 use Rattle.radio_headline.proofs.Connections.{AsksNothing, AtAnswer, Facts, HasAskedNothing, InAnswer, IsPulling, IsRelay, Pulls, RelayStage, events_of, stream_after}

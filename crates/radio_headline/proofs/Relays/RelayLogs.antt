@@ -1,22 +1,12 @@
 -- The events that a relay asks for, as they are applied and noted.
 use Rattle.std.proofs.Common.{◌≡◌, ℕ, zero, List, [], ◌∷◌, ◌++◌, Option, None, Some, refl, sym, ap, subst, ◌∙◌, append_assoc}
-use Rattle.std.proofs.lemmas.List.{append-nil}
-use Rattle.radio_events.specs.declared.entry.Entry.{Entry}
-use Rattle.radio_events.specs.declared.event.Event.{Event}
-use Rattle.radio_events.specs.declared.event.Event.TheVariants.{RelayDown}
-use Rattle.radio_events.specs.declared.reply.Reply.{Reply}
-use Rattle.radio_events.specs.declared.state.State.{State}
-use Rattle.radio_events.specs.declared.state.State.TheVariants.{Running, Shut}
-use Rattle.radio_core.specs.Run.{world_after_all}
-use Rattle.radio_parts.specs.Step.{Step, reply_to, world_after}
-use Rattle.radio_parts_station.specs.World.{World}
-use Rattle.radio_relay.specs.declared.items.PullItem.{PullItem}
-use Rattle.radio_relay.specs.declared.items.PullItem.TheVariants.{Up, Sound, Title as Named}
-use Rattle.radio_relay.specs.Pulled.{GoesOn, PullProgress as AnswerStanding, Stops}
-use Rattle.radio_relay.specs.Applied.{AreOfEvent, AreOfEventAnd, AreOfEventIf, AreOfItems, AreOfPulled, IsDownIfShut, IsGoingDown}
-use Rattle.radio_relay.specs.Course.{Asks, AsksIf, BringsItems, ComesOf, Follows, GoesDown, GoesDownIfShut, Onwards}
-use Rattle.radio_relay.specs.Pulling.{Pulling, NumberedState, state_after_reply, event_of, running_pull}
-use Rattle.radio_headline.specs.Course.{Noted, noting}
+use Rattle.radio_headline.proofs.Words.{append-nil, Entry, Event, RelayDown, Reply, State, Running, Shut, world_after_all, Step, reply_to, world_after, World, PullItem, Up, Sound, GoesOn, Stops, AreOfEvent}
+use Rattle.radio_headline.proofs.Words.{AreOfEventAnd, AreOfEventIf, AreOfItems, AreOfPulled, IsDownIfShut, IsGoingDown, Asks, AsksIf, BringsItems, ComesOf, Follows, GoesDownIfShut, Onwards, Pulling, NumberedState}
+use Rattle.radio_headline.proofs.Words.{state_after_reply, event_of, running_pull, noting}
+use Rattle.radio_relay.specs.declared.items.PullItem.TheVariants.{Title as Named}
+use Rattle.radio_relay.specs.Pulled.{PullProgress as AnswerStanding}
+use Rattle.radio_relay.specs.Course.{GoesDown}
+use Rattle.radio_headline.specs.Course.{Noted}
 use Rattle.radio_headline.proofs.Logs.{after_joined, entries, entries_joined}
 
 abbrev pub at : World → List Event → Noted

@@ -1,16 +1,8 @@
 -- Words of what a relay asks for.
 use Rattle.std.proofs.Common.{◌≡◌, ℕ, List, [], ◌∷◌, ◌++◌, Option, Some, refl}
-use Rattle.radio_values.specs.declared.field.Shown.{Shown}
-use Rattle.radio_events.specs.declared.entry.Entry.{Entry}
-use Rattle.radio_events.specs.declared.event.Event.{Event}
-use Rattle.radio_events.specs.declared.event.Event.TheVariants.{Arrive, Source, Push, SourceEnd, Title, Listen, Draw, Command, Leave, RelayUp, RelayDown, Clock}
-use Rattle.radio_events.specs.declared.reply.Reply.{Reply}
-use Rattle.radio_events.specs.declared.reply.Reply.TheVariants.{Arrived, Feeding, Seated, Drawn, Noted as WasNoted, Text, Deny, Finished, Stray}
-use Rattle.radio_relay.specs.declared.items.PullItem.{PullItem}
-use Rattle.radio_relay.specs.declared.items.PullItem.TheVariants.{Up}
-use Rattle.radio_events.specs.declared.state.State.TheVariants.{Running}
-use Rattle.radio_relay.specs.Applied.{number_after}
-use Rattle.radio_relay.specs.Pulling.{state_after_reply}
+use Rattle.radio_headline.proofs.Words.{Shown, Entry, Event, Arrive, Source, Push, SourceEnd, Title, Listen, Draw, Command, Leave, RelayUp, RelayDown, Clock, Reply, Arrived, Feeding, Seated, Drawn, Text, Deny, Finished}
+use Rattle.radio_headline.proofs.Words.{Stray, PullItem, Up, Running, number_after, state_after_reply}
+use Rattle.radio_events.specs.declared.reply.Reply.TheVariants.{Noted as WasNoted}
 use Rattle.radio_headline.proofs.Logs.{Each}
 
 -- an event is of the relay of this number, or asks for one

@@ -1,60 +1,23 @@
 -- the law of commands
 use Rattle.std.proofs.Common.{◌≡◌, ◌↔◌, ◌⊎◌, inl, inr, Bool, true, false, ℕ, Option, Some, None, List, refl, ap, sym, subst, ◌∙◌, arith, is_some, [], ◌∷◌}
-use Rattle.std.specs.Prelude.{◌||◌, not}
-use Rattle.std.specs.Str.{bytes_eq}
-use Rattle.std.proofs.lemmas.Bool.{and_parts}
-use Rattle.std.proofs.lemmas.Slice.Eq.{bytes_eq-Decides}
-use Rattle.radio_policy.specs.declared.judgement.Verdict.TheVariants.{Allow}
-use Rattle.radio_policy.specs.Table.{row}
-use Rattle.radio_policy.specs.Verdicts.{verdict_in}
-use Rattle.radio_creds.specs.Credentials.{Credentials}
-use Rattle.radio_settings_values.specs.declared.settings.Login.{Login}
-use Rattle.radio_settings_values.specs.declared.settings.Settings.{Settings}
-use Rattle.radio_settings_values.specs.Options.{options_for}
+use Rattle.radio_laws.proofs.Words.{◌||◌, not, bytes_eq, and_parts, bytes_eq-Decides, Allow, row, verdict_in, Credentials, Login, Settings, options_for, is_login_sent, is_admin_pair, MoveClients, KillClient, KillSource}
+use Rattle.radio_laws.proofs.Words.{SetFallback, AddUser, DeleteUser, Event, Obey, Answered, answered, carried_along, changed, session_over, IsCommanded, opened_by, opens_as_source, is_live, is_listener_at, NoMount}
+use Rattle.radio_laws.proofs.Words.{NoDestination, SameMount, NoClient, Killed, Seat, seat_in, seat_of, count_at, AreByNumber, by_number, Move, Ended, To, concerns, Faring, HasStayed, HasGone, HasLost, fares, counts_by}
+use Rattle.radio_laws.proofs.Words.{sight_of, Fallback, set_for, Session, session_of, without_session, bytes_apart, is_over, beside_ended, on_air_there, on_air_beside, is_opened, may_act, may_add, may_delete, needs_hold}
+use Rattle.radio_laws.proofs.Words.{shown_long, is_set, beside_set, FallsBack, ByTheSettings, ByACommand, IsSound, world_after, World, standing_of, is_another, his_seat, has_been_killed, sits_no_more, beside_him, live}
+use Rattle.radio_laws.proofs.Words.{is_cut, named, title_live, is_answered, sound_after, MayGive, IsLive, HasTarget, AsTheAdmin, ItsTitle, ItsFallback, IsGivenByRight, OnlyWhoMayCommands, IsSourceKilled, HasDone}
+use Rattle.radio_laws.proofs.Words.{mount_of, StaysBeside, CommandsAreKept, KilledHearNothing, UserList, with_user, without_user, has_users, has_user_at, with_user_at, without_user_at, Adds, Deletes, HasPassword}
+use Rattle.radio_laws.proofs.Words.{IsNoUser}
 use Rattle.radio_events.specs.declared.command.OpenedBy.TheVariants.{Source}
-use Rattle.radio_access.specs.CommandPairs.{is_login_sent, is_admin_pair}
 use Rattle.radio_fallback.proofs.MovedCounts.{moved_as_counted}
 use Rattle.radio_events.specs.declared.command.Command.{Command as TheCommand}
-use Rattle.radio_events.specs.declared.command.Command.TheVariants.{MoveClients, KillClient, KillSource, SetTitle, SetFallback, AddUser, DeleteUser}
-use Rattle.radio_events.specs.declared.event.Event.{Event}
-use Rattle.radio_parts_changes.specs.declared.change.Change.TheVariants.{Obey}
-use Rattle.radio_parts_station.specs.declared.standing.Standing.TheVariants.{Answered, Finished}
-use Rattle.radio_parts_changes.specs.Changes.{answered, carried_along, changed, session_over}
-use Rattle.radio_parts.specs.Allowed.{IsCommanded}
-use Rattle.radio_parts_facts.specs.CommandFacts.{opened_by, opens_as_source, is_live, is_listener_at}
-use Rattle.radio_policy.specs.declared.rule.Rule.TheVariants.{NoMount, NoDestination, SameMount, NoClient, Killed}
-use Rattle.radio_seats_rows.specs.declared.seat.Seat.{Seat}
-use Rattle.radio_seats_rows.specs.Seats.{seat_in, seat_of, count_at, AreByNumber}
-use Rattle.radio_tables.proofs.KeyLaws.{by_number}
-use Rattle.radio_fallback.specs.declared.moves.Move.{Move}
-use Rattle.radio_fallback.specs.declared.moves.Move.TheVariants.{Ended, To}
-use Rattle.radio_fallback.specs.Carry.{concerns}
-use Rattle.radio_fallback.proofs.Faring.{Faring, HasStayed, HasGone, HasLost, fares}
-use Rattle.radio_parts_changes.specs.Counts.{counts_by}
-use Rattle.radio_parts_station.specs.Facts.{sight_of}
-use Rattle.radio_parts_station.specs.Fallbacks.{Fallback, set_for}
-use Rattle.radio_parts_mount.specs.Sessions.{Session, session_of, without_session}
-use Rattle.radio_parts_mount.proofs.ApartLemmas.{bytes_apart}
-use Rattle.radio_parts_mount.proofs.SessionLookups.{is_over, beside_ended}
-use Rattle.radio_parts_changes.proofs.PartChanges.{on_air_there, on_air_beside}
-use Rattle.radio_core.proofs.Commands.AllowedCommands.{is_opened, may_act, may_add, may_delete, needs_hold}
-use Rattle.radio_parts.proofs.ListingLemmas.{shown_long}
-use Rattle.radio_parts_station.proofs.Lookups.{is_set, beside_set}
+use Rattle.radio_events.specs.declared.command.Command.TheVariants.{SetTitle}
+use Rattle.radio_parts_station.specs.declared.standing.Standing.TheVariants.{Finished}
 use Rattle.radio_laws.proofs.Denials.GrantedLemmas.{IsToldFor, ByShowing, ByDoing}
 use Rattle.radio_laws.proofs.Listings.ToldTexts.{told_for}
-use Rattle.radio_laws.specs.Walks.{FallsBack, ByTheSettings, ByACommand}
-use Rattle.radio_core.specs.Sound.{IsSound}
-use Rattle.radio_parts.specs.Step.{world_after}
-use Rattle.radio_parts_station.specs.World.{World, standing_of}
-use Rattle.radio_core.proofs.Clients.Obeyed.{is_another, his_seat, has_been_killed, sits_no_more, beside_him, live, is_cut, named, turned, title_live, is_answered}
-use Rattle.radio_core.proofs.Sound.SoundRuns.{sound_after}
+use Rattle.radio_core.proofs.Clients.Obeyed.{turned}
 use Rattle.radio_laws.proofs.Ends.GoneLemmas.{given_number, last_rises}
 use Rattle.radio_laws.proofs.Commands.KilledLemmas.{IsOver, hears_no_more}
-use Rattle.radio_laws.specs.Commanded.{MayGive, IsLive, HasTarget, AsTheAdmin, ItsTitle, ItsFallback, IsGivenByRight, OnlyWhoMayCommands, IsSourceKilled, HasDone, mount_of, StaysBeside, CommandsAreKept, KilledHearNothing}
-use Rattle.radio_creds.specs.UserList.{UserList, with_user, without_user}
-use Rattle.radio_access.specs.Lists.{has_users, has_user_at, with_user_at, without_user_at}
-use Rattle.radio_parts.specs.Allowed.{Adds, Deletes}
-use Rattle.radio_laws.specs.Commanded.{HasPassword, IsNoUser}
 use Rattle.radio_laws.proofs.Commands.CommandSteps.{later_so, told_so, after}
 use Rattle.radio_laws.proofs.Commands.UserChanges.{have_changed, password_set, user_gone, deleted_has_users, users_beside}
 

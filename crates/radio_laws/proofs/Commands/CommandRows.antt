@@ -1,17 +1,13 @@
 -- which rules the rows of a command have
 use Rattle.std.proofs.Common.{◌≡◌, ◌++◌, false, Bool, Option, Some, None}
-use Rattle.radio_policy.specs.declared.rule.Rule.{Rule}
-use Rattle.radio_policy.specs.declared.rule.Rule.TheVariants.{NoCommand, AdminPassword, SourcePassword, RelayPassword, MissingArgument, NoMount, NoDestination}
-use Rattle.radio_policy.specs.declared.rule.Rule.TheVariants.{SameMount, NoClient, NoUsers, NoUser}
-use Rattle.radio_policy.specs.declared.facts.CommandFacts.{CommandFacts}
+use Rattle.radio_laws.proofs.Words.{Rule, NoCommand, AdminPassword, SourcePassword, RelayPassword, MissingArgument, NoMount, NoDestination, SameMount, NoClient, NoUsers, NoUser, CommandFacts, access_rows, needs_rows}
+use Rattle.radio_laws.proofs.Words.{password_rule, command_rows, Each}
 use Rattle.radio_policy.specs.declared.facts.CommandAccess.{CommandAccess}
 use Rattle.radio_policy.specs.declared.facts.CommandAccess.TheVariants.{Everybody, Pair}
 use Rattle.radio_policy.specs.declared.facts.CommandNeeds.{CommandNeeds}
 use Rattle.radio_policy.specs.declared.facts.CommandNeeds.TheVariants.{Argument, Nothing, Mount, Destination, Client, Users, User}
 use Rattle.radio_policy.specs.declared.facts.Opener.{Opener}
 use Rattle.radio_policy.specs.declared.facts.Opener.TheVariants.{Admin, Source, Relay}
-use Rattle.radio_policy.specs.Table.{access_rows, needs_rows, password_rule, command_rows}
-use Rattle.radio_tables.specs.Lists.{Each}
 
 -- none of them is meant
 module _ (meant : Rule → Bool) (no_command : meant NoCommand ≡ false) (admin : meant AdminPassword ≡ false) (source : meant SourcePassword ≡ false)

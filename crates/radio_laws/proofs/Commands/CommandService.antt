@@ -1,36 +1,13 @@
 -- a client that may give a command is served
 use Rattle.std.proofs.Common.{◌≡◌, Bool, true, false, ℕ, Option, Some, None, is_some, List, [], ◌∷◌, refl, ap, sym, ◌∙◌}
-use Rattle.std.specs.Prelude.{◌&&◌, ◌||◌, not}
-use Rattle.std.specs.Option.{option_map_or}
-use Rattle.std.specs.Str.{bytes_eq}
-use Rattle.std.proofs.lemmas.Slice.Eq.{bytes_eq-Decides}
-use Rattle.radio_policy.specs.declared.rule.Rule.{Rule}
-use Rattle.radio_policy.specs.declared.rule.Rule.TheVariants.{NoMount, NoDestination, SameMount, NoClient, NoUsers, NoUser}
-use Rattle.radio_policy.specs.declared.judgement.Verdict.TheVariants.{Allow}
-use Rattle.radio_policy.specs.Table.{Row, row, needs_rows, password_rule, command_rows}
-use Rattle.radio_policy.specs.Verdicts.{verdict_in}
-use Rattle.radio_creds.specs.Credentials.{Credentials}
-use Rattle.radio_settings_values.specs.declared.settings.Login.{Login}
-use Rattle.radio_access.specs.SourcePair.{is_login}
-use Rattle.radio_access.specs.CommandPairs.{is_admin_pair}
-use Rattle.radio_tables.proofs.KeyLaws.{by_name}
-use Rattle.radio_seats_rows.specs.declared.seat.Seat.{Seat}
-use Rattle.radio_events.specs.declared.command.Asked.{Asked}
+use Rattle.radio_laws.proofs.Words.{◌&&◌, ◌||◌, not, option_map_or, bytes_eq, bytes_eq-Decides, Rule, NoMount, NoDestination, SameMount, NoClient, NoUsers, NoUser, Allow, Row, row, needs_rows, password_rule}
+use Rattle.radio_laws.proofs.Words.{command_rows, verdict_in, Credentials, Login, is_login, is_admin_pair, by_name, Seat, Asked, MoveClients, KillClient, KillSource, SetFallback, AddUser, DeleteUser, Command, said_of}
+use Rattle.radio_laws.proofs.Words.{opened_by, opener_in, opens, opens_as_source, is_live, is_listener_at, needs_of, facts_asked, counts_by, Carried, IsShort, IsSound, World, IsLive, HasTarget, MayGive, AsTheAdmin}
+use Rattle.radio_laws.proofs.Words.{ItsTitle, ItsFallback, WhoMayIsServed, MountUsers, users_at, has_users}
 use Rattle.radio_events.specs.declared.command.Command.{Command as TheCommand}
-use Rattle.radio_events.specs.declared.command.Command.TheVariants.{MoveClients, KillClient, KillSource, SetTitle, SetFallback, AddUser, DeleteUser}
-use Rattle.radio_events.specs.declared.event.Event.TheVariants.{Command}
-use Rattle.radio_parts.specs.Command.{said_of}
-use Rattle.radio_parts_facts.specs.CommandFacts.{opened_by, opener_in, opens, opens_as_source, is_live, is_listener_at, needs_of, facts_asked}
-use Rattle.radio_parts_changes.specs.Counts.{counts_by}
-use Rattle.radio_fallback.specs.declared.moves.Carried.{Carried}
-use Rattle.radio_events.specs.Texts.{IsShort}
-use Rattle.radio_core.specs.Sound.{IsSound}
-use Rattle.radio_parts_station.specs.World.{World}
-use Rattle.radio_laws.specs.Commanded.{IsLive, HasTarget, MayGive, AsTheAdmin, ItsTitle, ItsFallback, WhoMayIsServed}
+use Rattle.radio_events.specs.declared.command.Command.TheVariants.{SetTitle}
 use Rattle.radio_laws.proofs.Commands.CommandSteps.{told_so}
 use Rattle.radio_creds.specs.UserList.{has_user}
-use Rattle.radio_access.specs.declared.lists.MountUsers.{MountUsers}
-use Rattle.radio_access.specs.Lists.{users_at, has_users}
 
 -- a login is the user and the password that it has
 pub is_its : (login : Login) (pair : Credentials) → pair.user ≡ login.username → pair.password ≡ login.password → is_login login pair ≡ true

@@ -1,21 +1,11 @@
 -- a listener that was finished gets nothing any more
 use Rattle.std.proofs.Common.{◌≡◌, ◌++◌, ℕ, ◌≤◌, ◌<◌, Option, None, List, [], ◌∷◌, refl, ap, ◌∙◌, arith}
-use Rattle.radio_policy.specs.declared.rule.Rule.{Rule}
-use Rattle.radio_seats_rows.specs.declared.seat.Seat.{Seat}
-use Rattle.radio_seats_rows.specs.Seats.{seat_of}
-use Rattle.radio_events.specs.declared.event.Event.{Event}
-use Rattle.radio_parts_station.specs.declared.standing.Standing.{Standing}
-use Rattle.radio_parts_station.specs.declared.standing.Standing.TheVariants.{Unknown, Undecided, Feeds, Sits, Answered, Finished}
+use Rattle.radio_laws.proofs.Words.{Rule, Seat, seat_of, Event, Standing, Unknown, Undecided, Feeds, Sits, Answered, Finishes, handed_at, handed, SeatStep, IsHanded, IsMoved, IsGiven, IsSound, world_after, World}
+use Rattle.radio_laws.proofs.Words.{standing_of, seats_step, sound_after}
+use Rattle.radio_parts_station.specs.declared.standing.Standing.TheVariants.{Finished}
 use Rattle.radio_core.specs.ClientSteps.{ClientStep, Stays, Arrives, IsAnswered, IsObeyed, IsShown, BeginsToFeed, SitsDown, StopsFeeding, Leaves, IsFinished, ComesUp, GoesDown}
-use Rattle.radio_core.specs.Finishes.{Finishes}
-use Rattle.radio_core.specs.Handing.{handed_at, handed}
-use Rattle.radio_core.specs.SeatSteps.{SeatStep, Stays as SeatStays, IsHanded, SitsDown as SeatsDown, IsMoved, Leaves as SeatLeaves, IsEnded, IsGiven}
-use Rattle.radio_core.specs.Sound.{IsSound}
-use Rattle.radio_parts.specs.Step.{world_after}
-use Rattle.radio_parts_station.specs.World.{World, standing_of}
+use Rattle.radio_core.specs.SeatSteps.{Stays as SeatStays, SitsDown as SeatsDown, Leaves as SeatLeaves, IsEnded}
 use Rattle.radio_core.proofs.Clients.ClientSteps.{clients_step}
-use Rattle.radio_core.proofs.Seats.SeatSteps.{seats_step}
-use Rattle.radio_core.proofs.Sound.SoundRuns.{sound_after}
 use Rattle.radio_laws.proofs.Ends.GoneLemmas.{last_rises}
 use Rattle.radio_laws.proofs.Seats.LastMountLemmas.{seatless}
 

@@ -1,22 +1,10 @@
 -- what commands leave as it is
 use Rattle.std.proofs.Common.{◌≡◌, Bool, true, false, ℕ, ◌≤◌, Option, Some, List, [], ◌∷◌, length, refl, ap, sym, subst, arith}
-use Rattle.std.specs.Prelude.{if◌then◌else◌}
-use Rattle.radio_policy.specs.declared.rule.Rule.{Rule}
-use Rattle.radio_seats_rows.specs.declared.seat.Listener.{Listener}
-use Rattle.radio_seats_rows.specs.declared.seat.Seating.{Seating}
+use Rattle.radio_laws.proofs.Words.{if◌then◌else◌, Rule, Listener, Seating, is_listener, is_seat_at, lost_by, loses, seats_at, with_end, NobodyCame, Event, Obey, changed, IsCommanded, Session, session_of, IsSound, World}
+use Rattle.radio_laws.proofs.Words.{seat_unless_lost}
 use Rattle.radio_seats_rows.specs.declared.seat.Seating.TheVariants.{Sits as HasSeat, Finished as HasLostIt}
-use Rattle.radio_seats_rows.specs.Seats.{is_listener, is_seat_at, lost_by, loses, seats_at, with_end}
-use Rattle.radio_seats_rows.proofs.CountLaws.{NobodyCame}
 use Rattle.radio_events.specs.declared.command.Command.{Command as TheCommand}
-use Rattle.radio_events.specs.declared.event.Event.{Event}
-use Rattle.radio_parts_changes.specs.declared.change.Change.TheVariants.{Obey}
-use Rattle.radio_parts_changes.specs.Changes.{changed}
-use Rattle.radio_parts.specs.Allowed.{IsCommanded}
-use Rattle.radio_parts_mount.specs.Sessions.{Session, session_of}
 use Rattle.radio_core.specs.SessionSteps.{SessionStep, Stays, Begins, BeginsForRelay, Grows, IsTitled, IsRetitled, Ends, IsKilled}
-use Rattle.radio_core.specs.Sound.{IsSound}
-use Rattle.radio_parts_station.specs.World.{World}
-use Rattle.radio_core.proofs.Kept.KeptSeats.{seat_unless_lost}
 use Rattle.radio_core.proofs.Sessions.SessionSteps.{obeys}
 
 -- a session that is live after a command was live before it, with the same source and the same data

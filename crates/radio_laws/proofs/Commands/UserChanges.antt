@@ -1,48 +1,19 @@
 -- what a command that changes the users of a mount does to its listeners, and to the users that it lets in
 use Rattle.std.proofs.Common.{◌≡◌, ◌↔◌, ◌⊎◌, inl, inr, Bool, true, false, ℕ, ◌+◌, Option, Some, None, is_some, List, [], refl, ap, sym, subst, ◌∙◌}
-use Rattle.std.specs.Prelude.{◌&&◌, not, if◌then◌else◌}
-use Rattle.std.specs.Str.{bytes_eq}
-use Rattle.std.proofs.lemmas.Slice.Eq.{bytes_eq-Decides}
+use Rattle.radio_laws.proofs.Words.{◌&&◌, not, if◌then◌else◌, bytes_eq, bytes_eq-Decides, ListenerPassword, Credentials, option_map_or, UserList, with_user, without_user, MountUsers, Lists, users_at, has_users}
+use Rattle.radio_laws.proofs.Words.{has_user_at, with_user_at, without_user_at, accepts, lets_in, passes, with_changed, let_in_beside, let_in_still, let_in_then, accepted_set, accepted_beside, refused_gone}
+use Rattle.radio_laws.proofs.Words.{accepted_without, by_name, Listener, Seat, Seating, how_many, seat_of, seat_in, listener_of, is_seat_at, holds_of, ended_if, finished_if, with_ended, count_at, LosesSeat}
+use Rattle.radio_laws.proofs.Words.{same_or_loses, kept_seat, one, passing_mapped, AddUser, DeleteUser, Event, client_of, is_shut_out, relay_of, Sits, World, standing_of, standing_of_found, IsCommanded, ChangesUsers}
+use Rattle.radio_laws.proofs.Words.{answered, outsiders_ended, ListsStep, Stay, IsAdded, IsDeleted, IsSound, reply_to, world_after, may_add, may_delete, needs_hold, with_lists, shut_out_there, lost_in, lists_step}
+use Rattle.radio_laws.proofs.Words.{sound_answered, FaresByUsers, IsLetIn, IsShutOut, HaveChanged, StaysBeside, LetInStep, IsSet, IsTakenAway, UsersStep}
 use Rattle.md5.specs.Md5.{md5}
 use Rattle.radio_addr.specs.declared.address.Address.{Address}
-use Rattle.radio_policy.specs.declared.rule.Rule.TheVariants.{ListenerPassword}
-use Rattle.radio_creds.specs.Credentials.{Credentials}
-use Rattle.std.specs.Option.{option_map_or}
-use Rattle.radio_creds.specs.UserList.{UserList, has_user, with_user, without_user}
-use Rattle.radio_access.specs.declared.lists.MountUsers.{MountUsers}
-use Rattle.radio_access.specs.Lists.{Lists, users_at, has_users, has_user_at, with_user_at, without_user_at, accepts, lets_in, passes}
-use Rattle.radio_access.proofs.UserLaws.{with_changed, let_in_beside, let_in_still, let_in_then, accepted_set, accepted_beside, refused_gone, accepted_without}
-use Rattle.radio_tables.proofs.KeyLaws.{by_name}
-use Rattle.radio_seats_rows.specs.declared.seat.Listener.{Listener}
-use Rattle.radio_seats_rows.specs.declared.seat.Seat.{Seat}
-use Rattle.radio_seats_rows.specs.declared.seat.Seating.{Seating}
+use Rattle.radio_creds.specs.UserList.{has_user}
 use Rattle.radio_seats_rows.specs.declared.seat.Seating.TheVariants.{Sits as HasSeat, Finished as HasLostIt}
-use Rattle.radio_seats_rows.specs.Rests.{how_many}
-use Rattle.radio_seats_rows.specs.Seats.{seat_of, seat_in, listener_of, is_seat_at, holds_of, ended_if, finished_if, with_ended, count_at}
-use Rattle.radio_seats_rows.proofs.EndLaws.{LosesSeat, same_or_loses, kept_seat}
-use Rattle.radio_seats_rows.proofs.Lists.{one, passing_mapped}
 use Rattle.radio_events.specs.declared.command.Command.{Command as TheCommand}
-use Rattle.radio_events.specs.declared.command.Command.TheVariants.{AddUser, DeleteUser}
-use Rattle.radio_events.specs.declared.event.Event.{Event}
 use Rattle.radio_events.specs.declared.reply.Reply.TheVariants.{Text as SaysText}
 use Rattle.radio_events.specs.declared.text.ReplyText.TheVariants.{Ended}
-use Rattle.radio_parts_station.specs.Clients.{client_of}
-use Rattle.radio_parts_station.specs.Outsiders.{is_shut_out}
-use Rattle.radio_parts_station.specs.Relays.{relay_of}
-use Rattle.radio_parts_station.specs.declared.standing.Standing.TheVariants.{Sits}
-use Rattle.radio_parts_station.specs.World.{World, standing_of, standing_of_found}
-use Rattle.radio_parts.specs.Allowed.{IsCommanded, ChangesUsers}
-use Rattle.radio_parts_changes.specs.Changes.{answered, outsiders_ended}
-use Rattle.radio_core.specs.ListsSteps.{ListsStep, Stay, IsAdded, IsDeleted}
-use Rattle.radio_core.specs.Sound.{IsSound}
-use Rattle.radio_parts.specs.Step.{reply_to, world_after}
-use Rattle.radio_core.proofs.Commands.AllowedCommands.{may_add, may_delete, needs_hold}
-use Rattle.radio_core.proofs.Seats.ChangedUsers.{with_lists, shut_out_there}
-use Rattle.radio_core.proofs.Clients.Fates.{lost_in}
-use Rattle.radio_core.proofs.Commands.ListsSteps.{lists_step}
-use Rattle.radio_core.proofs.Sound.Soundness.{sound_answered}
-use Rattle.radio_laws.specs.Commanded.{FaresByUsers, IsLetIn, IsShutOut, HaveChanged, StaysBeside}
-use Rattle.radio_laws.specs.Users.{LetInStep, Stays, IsSet, IsTakenAway, UsersStep}
+use Rattle.radio_laws.specs.Users.{Stays}
 
 is_let_in : (b : Bool) → not b ≡ false → b ≡ true
 is_let_in true e = refl

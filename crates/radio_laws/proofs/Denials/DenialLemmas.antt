@@ -1,52 +1,16 @@
 -- the law of denials
 use Rattle.std.proofs.Common.{◌≡◌, ◌↔◌, ◌⊎◌, inl, inr, Bool, true, false, ℕ, not, ◌&&◌, ◌||◌, Option, Some, None, is_some, List, [], ◌∷◌}
 use Rattle.std.proofs.Common.{refl, ap, sym, subst, ◌∙◌}
-use Rattle.std.specs.Prelude.{find, if◌then◌else◌}
-use Rattle.std.specs.Str.{bytes_eq}
-use Rattle.std.proofs.lemmas.Slice.Eq.{bytes_eq-Decides}
-use Rattle.radio_policy.specs.declared.rule.Rule.{Rule}
-use Rattle.radio_policy.specs.declared.rule.Rule.TheVariants.{AddressDenied, AddressNotAllowed, NoMount}
-use Rattle.radio_policy.specs.declared.judgement.Verdict.{Verdict}
-use Rattle.radio_policy.specs.declared.judgement.Verdict.TheVariants.{Allow, Deny as Denied}
-use Rattle.radio_policy.specs.Table.{Row, arrive_rows}
-use Rattle.radio_policy.specs.Verdicts.{verdict_in, Denies}
-use Rattle.radio_addr.specs.declared.peer.Peer.{Peer}
-use Rattle.radio_creds.specs.Credentials.{Credentials}
-use Rattle.radio_settings_values.specs.declared.settings.Login.{Login}
-use Rattle.radio_settings_values.specs.Options.{options_for}
-use Rattle.radio_access.specs.SourcePair.{is_login, is_source_pair}
-use Rattle.radio_tables.specs.Lists.{Has}
-use Rattle.radio_tables.proofs.KeyLaws.{by_number}
-use Rattle.radio_seats_rows.specs.declared.seat.Listener.{Listener}
-use Rattle.radio_seats_rows.specs.Seats.{listener_of}
-use Rattle.radio_events.specs.declared.event.Event.{Event}
-use Rattle.radio_events.specs.declared.event.Event.TheVariants.{Arrive, Source, Listen}
-use Rattle.radio_events.specs.declared.event.SourceRequest.{SourceRequest}
-use Rattle.radio_events.specs.declared.event.ListenRequest.{ListenRequest}
-use Rattle.radio_events.specs.declared.reply.Reply.TheVariants.{Feeding, Deny}
-use Rattle.radio_events.specs.Events.{client_in}
+use Rattle.radio_laws.proofs.Words.{find, if◌then◌else◌, bytes_eq, bytes_eq-Decides, Rule, AddressDenied, AddressNotAllowed, NoMount, Verdict, Allow, Row, arrive_rows, verdict_in, Denies, Peer, Credentials, Login}
+use Rattle.radio_laws.proofs.Words.{options_for, is_login, is_source_pair, Has, by_number, Listener, listener_of, Event, Arrive, Source, Listen, SourceRequest, ListenRequest, Feeding, Deny, client_in, Nothing, Answer}
+use Rattle.radio_laws.proofs.Words.{Outcome, Undecided, changed, Client, client_of, in_state, Relay, relay_of, IsOnlyAnswered, DenialsAreThePolicys, AddressesAreDenied, FeedsAsItsSource, OnlySourcesFeed}
+use Rattle.radio_laws.proofs.Words.{KnownMountsAreKnown, is_known, arrive_facts, rows_to_arrive, admits_client, on_verdict, session_of, outcome, reply_to, world_after, rows_for, IsUndecided, World, standing_of}
+use Rattle.radio_laws.proofs.Words.{standing_of_found, does, beside_state, may_feed, RuleNamed, DeniesIt, RefusesHim, TellsHisRule, NamesNoRule, rule_in, rule_named}
+use Rattle.radio_policy.specs.declared.judgement.Verdict.TheVariants.{Deny as Denied}
 use Rattle.radio_parts_station.specs.declared.clients.ClientState.TheVariants.{Undecided as IsNew, Answered as HasHisAnswer}
-use Rattle.radio_parts_changes.specs.declared.change.Change.TheVariants.{Nothing, Answer}
-use Rattle.radio_parts.specs.declared.outcome.Outcome.{Outcome}
-use Rattle.radio_parts_station.specs.declared.standing.Standing.TheVariants.{Undecided}
-use Rattle.radio_parts_changes.specs.Changes.{changed}
-use Rattle.radio_parts_station.specs.Clients.{Client, client_of, in_state}
-use Rattle.radio_parts_station.specs.Relays.{Relay, relay_of}
-use Rattle.radio_laws.specs.Denials.{IsOnlyAnswered, DenialsAreThePolicys, AddressesAreDenied, FeedsAsItsSource, OnlySourcesFeed}
-use Rattle.radio_laws.specs.Denials.{KnownMountsAreKnown}
-use Rattle.radio_parts_station.specs.Facts.{is_known, arrive_facts, rows_to_arrive}
-use Rattle.radio_parts.specs.Arrive.{admits_client}
-use Rattle.radio_parts.specs.Outcomes.{on_verdict}
-use Rattle.radio_parts_mount.specs.Sessions.{session_of}
-use Rattle.radio_parts.specs.Step.{outcome, reply_to, world_after}
-use Rattle.radio_parts.specs.Ways.{rows_for, IsUndecided}
-use Rattle.radio_parts_station.specs.World.{World, standing_of, standing_of_found}
 use Rattle.radio_laws.proofs.Denials.LimitDenials.{denied_by}
 use Rattle.radio_laws.proofs.Denials.ListenerDenials.{why_denied, unknown_where}
-use Rattle.radio_parts_station.proofs.Lookups.{does, beside_state}
-use Rattle.radio_parts.proofs.Ways.{may_feed}
 use Rattle.radio_laws.proofs.Denials.GrantedLemmas.{Granted, AdmitsClient, AdmitsSource, AdmitsRelay, AdmitsListener, HandsData, TellsText, GrantsNothing, grants, granted}
-use Rattle.radio_core.proofs.Clients.NamedRules.{RuleNamed, DeniesIt, RefusesHim, TellsHisRule, NamesNoRule, rule_in, rule_named}
 
 module _ (denies : (rows : List Row) (rule : Rule) → (verdict_in rows ≡ Denied rule) ↔ Denies rows rule) (w : World) where
   abbrev Denial : Event → Outcome → Type 0

@@ -1,26 +1,8 @@
 -- What the policy denies is denied.
 use Rattle.std.proofs.Common.{◌≡◌, ◌↔◌, Option, Some, None, List, refl, ap, sym, ◌∙◌}
-use Rattle.radio_policy.specs.declared.rule.Rule.{Rule}
-use Rattle.radio_policy.specs.declared.judgement.Verdict.{Verdict}
+use Rattle.radio_laws.proofs.Words.{Rule, Verdict, Row, verdict_in, Denies, WebPath, web_path, Event, ListenRequest, Deny, Change, Outcome, says, on_verdict, asks_by, outcome, reply_to, rows_for, rows_from, rows_to_push}
+use Rattle.radio_laws.proofs.Words.{Standing, World, standing_of, ToArrive, ToFeed, ToSend, ToListen, ToCommand, ToComeUp, ThePolicyDenies, IsPath}
 use Rattle.radio_policy.specs.declared.judgement.Verdict.TheVariants.{Deny as Denied}
-use Rattle.radio_policy.specs.Table.{Row}
-use Rattle.radio_policy.specs.Verdicts.{verdict_in, Denies}
-use Rattle.radio_settings_values.specs.declared.web.WebPath.{WebPath}
-use Rattle.radio_settings_values.specs.Web.{web_path}
-use Rattle.radio_events.specs.declared.event.Event.{Event}
-use Rattle.radio_events.specs.declared.event.ListenRequest.{ListenRequest}
-use Rattle.radio_events.specs.declared.reply.Reply.TheVariants.{Deny}
-use Rattle.radio_parts_changes.specs.declared.change.Change.{Change}
-use Rattle.radio_parts.specs.declared.outcome.Outcome.{Outcome}
-use Rattle.radio_parts.specs.Outcomes.{says, on_verdict}
-use Rattle.radio_parts.specs.Pages.{asks_by}
-use Rattle.radio_parts.specs.Step.{outcome, reply_to}
-use Rattle.radio_parts.specs.Ways.{rows_for, rows_from}
-use Rattle.radio_parts_station.specs.Facts.{rows_to_push}
-use Rattle.radio_parts_station.specs.declared.standing.Standing.{Standing}
-use Rattle.radio_parts_station.specs.World.{World, standing_of}
-use Rattle.radio_laws.specs.Denials.{ToArrive, ToFeed, ToSend, ToListen, ToCommand, ToComeUp, ThePolicyDenies}
-use Rattle.radio_laws.specs.Shown.{IsPath}
 use Rattle.radio_laws.proofs.Denials.ServiceLemmas.{goes_feeding, goes_undecided}
 use Rattle.radio_laws.proofs.Listings.WebLaws.{is_path}
 

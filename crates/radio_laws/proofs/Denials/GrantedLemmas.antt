@@ -1,41 +1,11 @@
 -- what an outcome grants, as its reply says
 use Rattle.std.proofs.Common.{◌≡◌, ℕ, ◌+◌, Bool, true, false, Some, List, refl}
-use Rattle.radio_policy.specs.declared.judgement.Verdict.TheVariants.{Allow}
-use Rattle.radio_policy.specs.Verdicts.{verdict_in}
-use Rattle.radio_addr.specs.declared.peer.Peer.{Peer}
-use Rattle.radio_values.specs.declared.field.Shown.{Shown}
-use Rattle.radio_seats_rows.specs.declared.seat.Seat.{Seat}
-use Rattle.radio_seats_rows.specs.Seats.{seat_of}
-use Rattle.radio_fallback.specs.declared.walking.Landing.TheVariants.{Lands}
-use Rattle.radio_parts_mount.specs.Sessions.{Session}
-use Rattle.radio_parts_mount.specs.Stream.{data_at}
+use Rattle.radio_laws.proofs.Words.{Allow, verdict_in, Peer, Shown, Seat, seat_of, Lands, Session, data_at, Event, Arrive, Source, Listen, Draw, RelayUp, SourceRequest, ListenRequest, Reply, Arrived, Feeding, Seated}
+use Rattle.radio_laws.proofs.Words.{Drawn, Stray, ReplyText, client_in, Undecided, Sits, rows_to_arrive, rows_to_feed, rows_to_raise, walks_to, heard_at, World, standing_of, interval_for, head_of, counts_by, Change}
+use Rattle.radio_laws.proofs.Words.{Nothing, TakeSeat, Outcome, IsCommanded, said_of, first_seat, says, IsShownBy, outcome, Way, Misplaced, IsFinished, IsDenied, IsRefused, IsAdmitted, Begins, ComesUp, Receives}
+use Rattle.radio_laws.proofs.Words.{SetsTitle, TakesSeat, HandsOut, Ends, EndsAndLeaves, Leaves, GoesDown, Obeys, Shows, HasPassed, Ticks, way_of}
 use Rattle.radio_events.specs.declared.command.Command.{Command as TheCommand}
-use Rattle.radio_events.specs.declared.event.Event.{Event}
-use Rattle.radio_events.specs.declared.event.Event.TheVariants.{Arrive, Source, Listen, Draw, RelayUp}
-use Rattle.radio_events.specs.declared.event.SourceRequest.{SourceRequest}
-use Rattle.radio_events.specs.declared.event.ListenRequest.{ListenRequest}
-use Rattle.radio_events.specs.declared.reply.Reply.{Reply}
-use Rattle.radio_events.specs.declared.reply.Reply.TheVariants.{Arrived, Feeding, Seated, Drawn, Text as SaysText, Stray, Finished}
-use Rattle.radio_events.specs.declared.text.ReplyText.{ReplyText}
-use Rattle.radio_events.specs.Events.{client_in}
-use Rattle.radio_parts_station.specs.declared.standing.Standing.TheVariants.{Undecided, Sits}
-use Rattle.radio_parts_station.specs.Facts.{rows_to_arrive, rows_to_feed, rows_to_raise, walks_to}
-use Rattle.radio_parts_station.specs.Waiting.{heard_at}
-use Rattle.radio_parts_station.specs.World.{World, standing_of}
-use Rattle.radio_parts_facts.specs.Streams.{interval_for, head_of}
-use Rattle.radio_parts_changes.specs.Counts.{counts_by}
-use Rattle.radio_parts_changes.specs.declared.change.Change.{Change}
-use Rattle.radio_parts_changes.specs.declared.change.Change.TheVariants.{Nothing, TakeSeat}
-use Rattle.radio_parts.specs.declared.outcome.Outcome.{Outcome}
-use Rattle.radio_parts.specs.Allowed.{IsCommanded}
-use Rattle.radio_parts.specs.Command.{said_of}
-use Rattle.radio_parts.specs.Listen.{first_seat}
-use Rattle.radio_parts.specs.Outcomes.{says}
-use Rattle.radio_parts.specs.Pages.{IsShownBy}
-use Rattle.radio_parts.specs.Step.{outcome}
-use Rattle.radio_parts.specs.Ways.{Way, Misplaced, IsFinished, IsDenied, IsRefused, IsAdmitted, Begins, ComesUp, Receives, SetsTitle, TakesSeat, HandsOut, Ends}
-use Rattle.radio_parts.specs.Ways.{EndsAndLeaves, Leaves, GoesDown, Obeys, Shows, HasPassed, Ticks}
-use Rattle.radio_parts.proofs.Ways.{way_of}
+use Rattle.radio_events.specs.declared.reply.Reply.TheVariants.{Text as SaysText, Finished}
 
 -- the reply grants something
 abbrev pub grants : Reply → Bool

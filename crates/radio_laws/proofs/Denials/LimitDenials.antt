@@ -1,39 +1,15 @@
 -- a listener, a client or a source is denied by a limit only if the limit is reached
 use Rattle.std.proofs.Common.{Option, ◌≡◌, Bool, true, false, ℕ, ◌<◌, ◌≤◌, not, Some, None, List, [], ◌∷◌, length, refl, ap, sym, ◌∙◌, arith}
-use Rattle.std.specs.Prelude.{if◌then◌else◌}
-use Rattle.std.proofs.lemmas.Bool.Decides.{nat_tests}
+use Rattle.radio_laws.proofs.Words.{if◌then◌else◌, nat_tests, Rule, TooManyClients, TooManySources, MountFull, UserTwice, NumbersSpent, FallbackDepth, BadMount, MountInUse, ContentType, Row, arrive_rows, source_rows}
+use Rattle.radio_laws.proofs.Words.{relay_rows, command_rows, verdict_in, Each, Event, Arrive, Source, Push, SourceEnd, Title, Listen, Draw, Command, Leave, RelayUp, RelayDown, Clock, Peer, Shown, Reply, SourceRequest}
+use Rattle.radio_laws.proofs.Words.{ListenRequest, Outcome, Arrived, Feeding, Deny, Standing, Unknown, Undecided, Feeds, Sits, Answered, facts_asked, rows_to_command, CommandFacts, arrive_facts, source_facts_at}
+use Rattle.radio_laws.proofs.Words.{relay_facts_at, rows_to_raise, names_mount, IsFullAt, AdmitsByLimits, HasUserAt, ByAMount, DeniesByLimits, ComesBy, outcome, reply_to, rows_for, rows_from, World, standing_of}
+use Rattle.radio_laws.proofs.Words.{may_feed, may_come_up, has_room_left, RuleNamed, DeniesIt, RefusesHim, TellsHisRule, NamesNoRule, rule_in, rule_named}
 use Rattle.radio_policy.specs.declared.judgement.Verdict.TheVariants.{Deny as Denied}
-use Rattle.radio_policy.specs.declared.rule.Rule.{Rule}
-use Rattle.radio_policy.specs.declared.rule.Rule.TheVariants.{TooManyClients, TooManySources, MountFull, UserTwice, NumbersSpent, FallbackDepth}
-use Rattle.radio_policy.specs.declared.rule.Rule.TheVariants.{BadMount, MountInUse, ContentType}
-use Rattle.radio_policy.specs.Table.{Row, arrive_rows, source_rows, relay_rows, command_rows}
-use Rattle.radio_policy.specs.Verdicts.{verdict_in}
-use Rattle.radio_tables.specs.Lists.{Each}
-use Rattle.radio_events.specs.declared.event.Event.{Event}
-use Rattle.radio_events.specs.declared.event.Event.TheVariants.{Arrive, Source, Push, SourceEnd, Title, Listen, Draw, Command, Leave}
-use Rattle.radio_events.specs.declared.event.Event.TheVariants.{RelayUp, RelayDown, Clock}
-use Rattle.radio_addr.specs.declared.peer.Peer.{Peer}
-use Rattle.radio_values.specs.declared.field.Shown.{Shown}
-use Rattle.radio_events.specs.declared.reply.Reply.{Reply}
-use Rattle.radio_events.specs.declared.event.SourceRequest.{SourceRequest}
-use Rattle.radio_events.specs.declared.event.ListenRequest.{ListenRequest}
-use Rattle.radio_parts.specs.declared.outcome.Outcome.{Outcome}
-use Rattle.radio_events.specs.declared.reply.Reply.TheVariants.{Arrived, Feeding, Deny}
-use Rattle.radio_parts_station.specs.declared.standing.Standing.{Standing}
-use Rattle.radio_parts_station.specs.declared.standing.Standing.TheVariants.{Unknown, Undecided, Feeds, Sits, Answered, Finished}
-use Rattle.radio_parts_facts.specs.CommandFacts.{facts_asked, rows_to_command}
-use Rattle.radio_policy.specs.declared.facts.CommandFacts.{CommandFacts}
-use Rattle.radio_parts_station.specs.Facts.{is_limit_reached as is_too_many, arrive_facts, source_facts_at, relay_facts_at, rows_to_raise, names_mount}
-use Rattle.radio_laws.specs.Limits.{IsFullAt, AdmitsByLimits}
-use Rattle.radio_laws.specs.LimitDenials.{HasUserAt, ByAMount, DeniesByLimits}
-use Rattle.radio_laws.specs.Walks.{ComesBy}
-use Rattle.radio_parts.specs.Step.{outcome, reply_to}
-use Rattle.radio_parts.specs.Ways.{rows_for, rows_from}
-use Rattle.radio_parts_station.specs.World.{World, standing_of}
-use Rattle.radio_parts.proofs.Ways.{may_feed, may_come_up, has_room_left}
+use Rattle.radio_parts_station.specs.declared.standing.Standing.TheVariants.{Finished}
+use Rattle.radio_parts_station.specs.Facts.{is_limit_reached as is_too_many}
 use Rattle.radio_laws.proofs.Denials.GrantedLemmas.{Granted, AdmitsClient, AdmitsSource, AdmitsRelay, AdmitsListener, HandsData, TellsText, GrantsNothing, grants, granted}
 use Rattle.radio_laws.proofs.Commands.CommandRows.{of_no_command}
-use Rattle.radio_core.proofs.Clients.NamedRules.{RuleNamed, DeniesIt, RefusesHim, TellsHisRule, NamesNoRule, rule_in, rule_named}
 use Rattle.radio_laws.proofs.Denials.ListenerDenials.{why_denied, denies_none, full_where, twice_where, deep_where}
 
 -- the rules of the limits of mounts, that of clients and that of sources

@@ -1,31 +1,10 @@
 -- why a listener is denied what it asks for, and at which mount of its walk
 use Rattle.std.proofs.Common.{◌≡◌, inl, inr, Bool, true, false, ℕ, ◌<◌, ◌||◌, ◌&&◌, not, Option, Some, None, List, [], ◌∷◌, refl, ap, sym, subst, ◌∙◌, arith}
-use Rattle.std.specs.Prelude.{if◌then◌else◌}
-use Rattle.std.specs.List.{list_any}
-use Rattle.std.specs.Str.{bytes_eq}
-use Rattle.std.proofs.lemmas.Slice.Eq.{bytes_eq-Decides}
-use Rattle.radio_creds.specs.Credentials.{Credentials}
+use Rattle.radio_laws.proofs.Words.{if◌then◌else◌, list_any, bytes_eq, bytes_eq-Decides, Credentials, Rule, BadMount, NoMount, NotLive, ListenerPassword, MountFull, UserTwice, FallbackDepth, listen_rows, verdict_in, Has}
+use Rattle.radio_laws.proofs.Words.{Listener, WalkFinding, Seat, Seating, has_user, is_user_at, Landing, found_at, stop_of, stop_in, sits_already, ListenRequest, is_known, names_mount, rows_to_listen, sight_of, walks_to}
+use Rattle.radio_laws.proofs.Words.{walk_stops, IsFullAt, SentUser, most_at, allows_duplicates_at, HasUserAt, ComesBy, AtFirst, World, found_by}
 use Rattle.radio_policy.specs.declared.judgement.Verdict.TheVariants.{Deny as Denied}
-use Rattle.radio_policy.specs.declared.rule.Rule.{Rule}
-use Rattle.radio_policy.specs.declared.rule.Rule.TheVariants.{BadMount, NoMount, NotLive, ListenerPassword, MountFull, UserTwice, FallbackDepth}
-use Rattle.radio_policy.specs.Table.{listen_rows}
-use Rattle.radio_policy.specs.Verdicts.{verdict_in}
-use Rattle.radio_tables.specs.Lists.{Has}
-use Rattle.radio_seats_rows.specs.declared.seat.Listener.{Listener}
-use Rattle.radio_fallback.specs.declared.walking.WalkFinding.{WalkFinding}
-use Rattle.radio_seats_rows.specs.declared.seat.Seat.{Seat}
-use Rattle.radio_seats_rows.specs.declared.seat.Seating.{Seating}
 use Rattle.radio_seats_rows.specs.declared.seat.Seating.TheVariants.{Sits as HasSeat, Finished as HasLostIt}
-use Rattle.radio_seats_rows.specs.Seats.{has_user, is_user_at}
-use Rattle.radio_fallback.specs.declared.walking.Landing.{Landing}
-use Rattle.radio_fallback.specs.Walk.{found_at, stop_of, stop_in, sits_already}
-use Rattle.radio_events.specs.declared.event.ListenRequest.{ListenRequest}
-use Rattle.radio_parts_station.specs.Facts.{is_known, names_mount, rows_to_listen, sight_of, walks_to, walk_stops}
-use Rattle.radio_laws.specs.Limits.{IsFullAt, SentUser, most_at, allows_duplicates_at}
-use Rattle.radio_laws.specs.LimitDenials.{HasUserAt}
-use Rattle.radio_laws.specs.Walks.{ComesBy, AtFirst}
-use Rattle.radio_parts_station.specs.World.{World}
-use Rattle.radio_parts.proofs.Ways.{found_by}
 use Rattle.radio_laws.proofs.Seats.WalkLemmas.{full_at, both, WalkEnds, LandsThere, StopsThere, GoesTooFar, walk_ends}
 
 -- the rule of names that are not known

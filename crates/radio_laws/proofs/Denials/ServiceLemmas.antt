@@ -1,64 +1,19 @@
 -- the law of service
 use Rattle.std.proofs.Common.{◌≡◌, ◌↔◌, Bool, true, false, ℕ, ◌+◌, ◌-◌, ◌==◌, Option, Some, None, is_some, List, length, drop, refl, ap, sym, subst, ◌∙◌, arith}
-use Rattle.std.specs.Prelude.{min, if◌then◌else◌}
-use Rattle.std.proofs.lemmas.Bool.Decides.{nat_tests}
-use Rattle.std.proofs.lemmas.List.{length-take, length-drop}
-use Rattle.radio_policy.specs.declared.rule.Rule.{Rule}
-use Rattle.radio_policy.specs.declared.judgement.Verdict.{Verdict}
-use Rattle.radio_policy.specs.declared.judgement.Verdict.TheVariants.{Allow, Deny as Denied}
-use Rattle.radio_policy.specs.Table.{Row}
-use Rattle.radio_policy.specs.Verdicts.{verdict_in, Allows}
-use Rattle.radio_addr.specs.declared.peer.Peer.{Peer}
-use Rattle.radio_events.specs.declared.event.Event.{Event}
-use Rattle.radio_events.specs.declared.event.Event.TheVariants.{Arrive, Source, Push, SourceEnd, Title, Listen, Draw, RelayUp, RelayDown}
-use Rattle.radio_events.specs.declared.event.SourceRequest.{SourceRequest}
-use Rattle.radio_events.specs.declared.event.ListenRequest.{ListenRequest}
+use Rattle.radio_laws.proofs.Words.{min, if◌then◌else◌, nat_tests, length-take, length-drop, Rule, Verdict, Allow, Row, verdict_in, Allows, Peer, Event, Arrive, Source, Push, SourceEnd, Title, Listen, Draw, RelayUp}
+use Rattle.radio_laws.proofs.Words.{RelayDown, SourceRequest, ListenRequest, Change, Nothing, SetTitle, End, EndAndLeave, Outcome, Noted, Stray, Seat, Standing, Unknown, Undecided, Feeds, Sits, Answered, World}
+use Rattle.radio_laws.proofs.Words.{standing_of, has_relay, changed, Lands, rows_to_arrive, rows_to_feed, rows_to_raise, rows_to_push, rows_to_listen, walks_to, ComesBy, says, on_verdict, if_undecided, if_feeding}
+use Rattle.radio_laws.proofs.Words.{if_sitting, unless_relayed, admits_client, shown_for, begins, takes_in, first_seat, takes_seat, sits_where, head_of, hands_out, hands_out_at, draws_so, seat_of, Session, session_of}
+use Rattle.radio_laws.proofs.Words.{IsSound, outcome, reply_to, world_after, Client, client_of, WholeStream, end_of, data_at, is_over, on_air_there, taken_in_there, is_new_client, turns_ended, turns_ended_and_left}
+use Rattle.radio_laws.proofs.Words.{has_advanced, asks, turns_sitting, turns_admitted, may_begin, lands_at, may_be_raised, no_path, raises, goes_down_from, Shown, asks_by, heard_named, heard_at}
+use Rattle.radio_policy.specs.declared.judgement.Verdict.TheVariants.{Deny as Denied}
 use Rattle.radio_parts_station.specs.declared.clients.ClientState.TheVariants.{Undecided as IsNew}
-use Rattle.radio_parts_changes.specs.declared.change.Change.{Change}
-use Rattle.radio_parts_changes.specs.declared.change.Change.TheVariants.{Nothing, SetTitle, End, EndAndLeave}
-use Rattle.radio_parts.specs.declared.outcome.Outcome.{Outcome}
-use Rattle.radio_events.specs.declared.reply.Reply.TheVariants.{Noted, Finished, Stray}
-use Rattle.radio_seats_rows.specs.declared.seat.Seat.{Seat}
-use Rattle.radio_parts_station.specs.declared.standing.Standing.{Standing}
-use Rattle.radio_parts_station.specs.declared.standing.Standing.TheVariants.{Unknown, Undecided, Feeds, Sits, Answered}
-use Rattle.radio_parts_station.specs.World.{World, standing_of, has_relay}
-use Rattle.radio_parts_changes.specs.Changes.{changed}
-use Rattle.radio_fallback.specs.declared.walking.Landing.TheVariants.{Lands}
-use Rattle.radio_parts_station.specs.Facts.{rows_to_arrive, rows_to_feed, rows_to_raise, rows_to_push, rows_to_listen, walks_to}
-use Rattle.radio_laws.specs.Walks.{ComesBy}
+use Rattle.radio_events.specs.declared.reply.Reply.TheVariants.{Finished}
 use Rattle.radio_laws.proofs.Seats.WalkLemmas.{lands_on_his_way}
-use Rattle.radio_parts.specs.Outcomes.{says, on_verdict, if_undecided, if_feeding, if_sitting, unless_relayed}
-use Rattle.radio_parts.specs.Arrive.{admits_client}
-use Rattle.radio_parts_station.specs.Streams.{shown_for}
-use Rattle.radio_parts.specs.Source.{begins}
-use Rattle.radio_parts.specs.Push.{takes_in}
-use Rattle.radio_parts.specs.Listen.{first_seat, takes_seat, sits_where}
-use Rattle.radio_parts_facts.specs.Streams.{head_of}
-use Rattle.radio_parts.specs.Draw.{hands_out}
-use Rattle.radio_parts.proofs.DrawLemmas.{hands_out_at, draws_so}
-use Rattle.radio_seats_rows.specs.Seats.{seat_of}
 use Rattle.radio_laws.specs.Service.{IsSeatedByWalk, DrawsData, Serves, ChangesNothing}
-use Rattle.radio_parts_mount.specs.Sessions.{Session, session_of}
-use Rattle.radio_core.specs.Sound.{IsSound}
-use Rattle.radio_parts.specs.Step.{outcome, reply_to, world_after}
-use Rattle.radio_parts_station.specs.Clients.{Client, client_of}
-use Rattle.radio_parts_mount.specs.Stream.{WholeStream, end_of, data_at}
 use Rattle.radio_core.proofs.Clients.CalledHome.{turns_up, turns_risen}
-use Rattle.radio_parts_mount.proofs.SessionLookups.{is_over}
-use Rattle.radio_parts_changes.proofs.PartChanges.{on_air_there, taken_in_there}
-use Rattle.radio_parts_station.proofs.Lookups.{is_new_client}
-use Rattle.radio_core.proofs.Sound.SoundEnds.{turns_ended, turns_ended_and_left}
-use Rattle.radio_core.proofs.Sound.SoundSessions.{has_advanced}
 use Rattle.radio_core.proofs.Seats.SeatedLemmas.{seat_of_sitting}
-use Rattle.radio_core.proofs.Clients.Standings.{asks, turns_sitting, turns_admitted}
-use Rattle.radio_parts.proofs.Ways.{may_begin, lands_at, may_be_raised, no_path}
 use Rattle.radio_laws.proofs.Denials.GrantedLemmas.{Granted, AdmitsClient, AdmitsSource, AdmitsRelay, AdmitsListener, HandsData, TellsText, GrantsNothing, is_idle, granted}
-use Rattle.radio_parts.specs.RelayUp.{raises}
-use Rattle.radio_parts.specs.RelayDown.{goes_down_from}
-use Rattle.radio_values.specs.declared.field.Shown.{Shown}
-use Rattle.radio_parts.specs.Pages.{asks_by}
-use Rattle.radio_parts.proofs.HeardLemmas.{heard_named}
-use Rattle.radio_parts_station.specs.Waiting.{heard_at}
 
 is_allowed : (v : Verdict) (denied : Change) (allowed : Outcome) → v ≡ Allow → on_verdict v denied allowed ≡ allowed
 is_allowed Allow denied allowed e = refl

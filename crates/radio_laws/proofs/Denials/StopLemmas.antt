@@ -1,26 +1,9 @@
 -- a walk is stopped by the first of four rules that holds at a mount
 use Rattle.std.proofs.Common.{◌≡◌, Bool, true, false, ℕ, Option, Some, None, is_some, List, length, refl, sym, subst, ◌∙◌, arith}
-use Rattle.std.specs.Prelude.{if◌then◌else◌}
-use Rattle.std.proofs.lemmas.Bool.Decides.{nat_tests}
-use Rattle.radio_creds.specs.Credentials.{Credentials}
+use Rattle.radio_laws.proofs.Words.{if◌then◌else◌, nat_tests, Credentials, Rule, BadMount, NoMount, NotLive, MountFull, ListenerPassword, UserTwice, FallbackDepth, listen_rows, verdict_in, lets_in, seats_at, Landing}
+use Rattle.radio_laws.proofs.Words.{is_full, is_full_for, is_twice_for, found_at, stop_of, stop_in, Listen, ListenRequest, Session, outcome, reply_to, rule_named, is_known, names_mount, sight_of, walks_to, walk_stops}
+use Rattle.radio_laws.proofs.Words.{heard_at, World, IsFullAt, most_at, allows_duplicates_at}
 use Rattle.radio_policy.specs.declared.judgement.Verdict.TheVariants.{Deny as Denied}
-use Rattle.radio_policy.specs.declared.rule.Rule.{Rule}
-use Rattle.radio_policy.specs.declared.rule.Rule.TheVariants.{BadMount, NoMount, NotLive, MountFull, ListenerPassword, UserTwice, FallbackDepth}
-use Rattle.radio_policy.specs.Table.{listen_rows}
-use Rattle.radio_policy.specs.Verdicts.{verdict_in}
-use Rattle.radio_access.specs.Lists.{lets_in}
-use Rattle.radio_seats_rows.specs.Seats.{seats_at}
-use Rattle.radio_fallback.specs.declared.walking.Landing.{Landing}
-use Rattle.radio_fallback.specs.Walk.{is_full, is_full_for, is_twice_for, found_at, stop_of, stop_in}
-use Rattle.radio_events.specs.declared.event.Event.TheVariants.{Listen}
-use Rattle.radio_events.specs.declared.event.ListenRequest.{ListenRequest}
-use Rattle.radio_parts_mount.specs.Sessions.{Session}
-use Rattle.radio_parts.specs.Step.{outcome, reply_to}
-use Rattle.radio_core.proofs.Clients.NamedRules.{rule_named}
-use Rattle.radio_parts_station.specs.Facts.{is_known, names_mount, sight_of, walks_to, walk_stops}
-use Rattle.radio_parts_station.specs.Waiting.{heard_at}
-use Rattle.radio_parts_station.specs.World.{World}
-use Rattle.radio_laws.specs.Limits.{IsFullAt, most_at, allows_duplicates_at}
 use Rattle.radio_laws.specs.WalkDenials.{HasRoomAt, StopsAt, HasNoSource, IsFull, IsClosed, IsTaken, WalksAreStoppedInOrder}
 use Rattle.radio_laws.specs.WalkDenials.{IsTurnedAway, ByPath, ByName, ByPair, ByUser, OnItsWay, TooFar}
 use Rattle.radio_laws.proofs.Denials.LimitDenials.{denied_by}

@@ -1,15 +1,6 @@
 -- what was set for a mount stays set until a command sets another
 use Rattle.std.proofs.Common.{◌≡◌, ◌⊎◌, inl, inr, Option, ℕ, List, ap, subst, ◌∙◌}
-use Rattle.radio_tables.proofs.KeyLaws.{by_name}
-use Rattle.radio_events.specs.declared.command.Command.TheVariants.{SetFallback}
-use Rattle.radio_events.specs.declared.event.Event.{Event}
-use Rattle.radio_parts.specs.Allowed.{IsCommanded}
-use Rattle.radio_parts.specs.Step.{world_after}
-use Rattle.radio_parts_station.specs.Fallbacks.{Fallback, set_for}
-use Rattle.radio_parts_station.specs.StationState.{StationState}
-use Rattle.radio_parts_station.specs.World.{World}
-use Rattle.radio_parts_station.proofs.Lookups.{beside_set}
-use Rattle.radio_laws.specs.Commanded.{FallbacksStay}
+use Rattle.radio_laws.proofs.Words.{by_name, SetFallback, Event, IsCommanded, world_after, Fallback, set_for, StationState, World, beside_set, FallbacksStay}
 use Rattle.radio_laws.proofs.Ends.StationSteps.{StationStep, IsAlike, GivesNumber, SetsFallback, station_step}
 
 module _ (w : World) (event : Event) (mount : List ℕ) (station : StationState) where

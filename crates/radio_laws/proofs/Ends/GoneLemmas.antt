@@ -1,45 +1,13 @@
 -- the law of clients that have left
 use Rattle.std.proofs.Common.{◌≡◌, inl, inr, true, false, ℕ, ◌<◌, ◌≤◌, Bool, Some, List, [], ◌∷◌, ◌++◌, refl, ap, sym, subst, ◌∙◌, arith, Option, None}
-use Rattle.std.specs.Prelude.{if◌then◌else◌, nat_lt}
-use Rattle.std.proofs.lemmas.Bool.Decides.{nat_tests}
-use Rattle.std.proofs.lemmas.List.{append-nil}
-use Rattle.radio_settings_values.specs.declared.settings.Settings.{Settings}
-use Rattle.radio_access.specs.Lists.{Lists}
-use Rattle.radio_seats_rows.specs.declared.seat.Seat.{Seat}
-use Rattle.radio_seats_rows.specs.Seats.{seat_of}
-use Rattle.radio_events.specs.declared.event.Event.{Event}
-use Rattle.radio_events.specs.declared.event.Event.TheVariants.{Arrive, Source, Push, SourceEnd, Title, Listen, Draw, Command, Leave}
-use Rattle.radio_events.specs.declared.event.Event.TheVariants.{RelayUp, RelayDown, Clock}
-use Rattle.radio_parts_changes.specs.declared.change.Change.TheVariants.{Nothing}
-use Rattle.radio_events.specs.declared.reply.Reply.TheVariants.{Noted, Stray}
-use Rattle.radio_parts.specs.Outcomes.{says, unless_relayed}
-use Rattle.radio_parts.specs.RelayDown.{goes_down_from}
-use Rattle.radio_parts.specs.declared.outcome.Outcome.{Outcome}
-use Rattle.radio_parts_station.specs.declared.standing.Standing.{Standing}
-use Rattle.radio_parts_station.specs.declared.standing.Standing.TheVariants.{Unknown, Undecided, Feeds, Sits, Answered, Finished}
-use Rattle.radio_parts_station.specs.World.{World, standing_of, has_relay}
-use Rattle.radio_parts_changes.specs.Changes.{changed, session_ended}
-use Rattle.radio_parts_station.specs.StationState.{StationState}
-use Rattle.radio_laws.specs.Gone.{Leaving, AsClient, AsRelay, HasLeft, IsOutOfPlace, StaysGone}
-use Rattle.radio_core.specs.Handing.{data_in, block_in, handed_at, handed, delivered_at, delivered}
-use Rattle.radio_parts.specs.Leave.{leaves_from}
+use Rattle.radio_laws.proofs.Words.{if◌then◌else◌, nat_lt, nat_tests, append-nil, Settings, Lists, Seat, seat_of, Event, Arrive, Source, Push, SourceEnd, Title, Listen, Draw, Command, Leave, RelayUp, RelayDown, Clock}
+use Rattle.radio_laws.proofs.Words.{Nothing, Noted, Stray, says, unless_relayed, goes_down_from, Outcome, Standing, Unknown, Undecided, Feeds, Sits, Answered, World, standing_of, has_relay, changed, session_ended}
+use Rattle.radio_laws.proofs.Words.{StationState, Leaving, AsClient, AsRelay, HasLeft, IsOutOfPlace, StaysGone, data_in, block_in, handed_at, handed, delivered_at, delivered, leaves_from, world_after_all, run_after}
+use Rattle.radio_laws.proofs.Words.{IsSound, outcome, reply_to, world_after, web_path, WebPath, ListenRequest, Nothing, says, asks_by, Stray, client_in, others_hold, known_before, sound_after, turns_forgotten, by_own}
+use Rattle.radio_laws.proofs.Words.{not_of, nothing_of}
+use Rattle.radio_parts_station.specs.declared.standing.Standing.TheVariants.{Finished}
 use Rattle.radio_core.specs.Others.{StandsOn}
-use Rattle.radio_core.specs.Run.{world_after_all, run_after}
-use Rattle.radio_core.specs.Sound.{IsSound}
-use Rattle.radio_parts.specs.Step.{outcome, reply_to, world_after}
-use Rattle.radio_settings_values.specs.Web.{web_path}
-use Rattle.radio_settings_values.specs.declared.web.WebPath.{WebPath}
-use Rattle.radio_events.specs.declared.event.ListenRequest.{ListenRequest}
-use Rattle.radio_parts_changes.specs.declared.change.Change.TheVariants.{Nothing}
-use Rattle.radio_parts.specs.Outcomes.{says}
-use Rattle.radio_parts.specs.Pages.{asks_by}
-use Rattle.radio_events.specs.declared.reply.Reply.TheVariants.{Stray}
-use Rattle.radio_events.specs.Events.{client_in}
-use Rattle.radio_core.proofs.Clients.FinishLemmas.{others_hold, known_before}
 use Rattle.radio_core.proofs.Clients.ReplyLemmas.{replies_fit}
-use Rattle.radio_core.proofs.Sound.SoundRuns.{sound_after}
-use Rattle.radio_core.proofs.Clients.Standings.{turns_forgotten}
-use Rattle.radio_core.proofs.Clients.OwnLemmas.{by_own, not_of, nothing_of}
 use Rattle.radio_laws.proofs.Ends.StationSteps.{StationStep, IsAlike, GivesNumber, SetsFallback, station_step}
 
 -- runs are joined

@@ -1,28 +1,13 @@
 -- after a clock event nobody is there whose time is over
 use Rattle.std.proofs.Common.{◌≡◌, Bool, true, false, ℕ, Option, Some, None, List, [], ◌∷◌, refl, ap}
 use Rattle.std.proofs.Common.{sym, ◌∙◌}
-use Rattle.std.specs.Prelude.{if◌then◌else◌, fold, not}
-use Rattle.std.specs.Option.{option_map}
-use Rattle.radio_policy.specs.declared.rule.Rule.TheVariants.{TimeOver, HeaderTimeout}
-use Rattle.radio_tables.proofs.FindLaws.{found_has}
-use Rattle.radio_seats_rows.proofs.EndLaws.{kept_seat}
+use Rattle.radio_laws.proofs.Words.{if◌then◌else◌, fold, not, option_map, TimeOver, HeaderTimeout, found_has, kept_seat, before_silence, session_silenced, silent_in, ticked, Client, client_of, with_client_state}
+use Rattle.radio_laws.proofs.Words.{IsInTime, Session, is_of, session_of, AreApart, IsSound, has_sat_out, is_silent, asks_too_late, timed_out, World, kept_apart, Seat, seat_of, moved_into, Fate, GoesOn, IsEnded}
+use Rattle.radio_laws.proofs.Words.{HasStopped, HasEnded, Nobody, ClockCause, ClockCarries, clients_after, fates_silence, sound_sat_out}
 use Rattle.radio_parts_station.specs.declared.clients.ClientState.TheVariants.{Ended}
-use Rattle.radio_parts_changes.specs.Changes.{before_silence, session_silenced, silent_in, ticked}
-use Rattle.radio_parts_station.specs.Clients.{Client, client_of, with_client_state}
-use Rattle.radio_laws.specs.Outstaying.{IsInTime}
-use Rattle.radio_parts_mount.specs.Sessions.{Session, is_of, session_of, AreApart}
-use Rattle.radio_core.specs.Sound.{IsSound}
-use Rattle.radio_parts_mount.specs.Timeouts.{has_sat_out, is_silent}
-use Rattle.radio_parts_station.specs.Timeouts.{asks_too_late, timed_out}
-use Rattle.radio_parts_station.specs.World.{World}
-use Rattle.radio_parts_mount.proofs.ApartLemmas.{kept_apart}
 use Rattle.radio_parts_mount.proofs.SilentSessions.{no_pass}
 use Rattle.radio_core.proofs.Sessions.SilentLemmas.{silent_then}
-use Rattle.radio_seats_rows.specs.declared.seat.Seat.{Seat}
-use Rattle.radio_seats_rows.specs.Seats.{seat_of}
-use Rattle.radio_core.specs.Moves.{moved_into}
-use Rattle.radio_core.proofs.Clients.Fates.{Fate, GoesOn, IsEnded, HasStopped, IsMoved, HasEnded, Nobody}
-use Rattle.radio_core.proofs.Sessions.TickLemmas.{ClockCause, ClockCarries, clients_after, fates_silence, sound_sat_out}
+use Rattle.radio_core.proofs.Clients.Fates.{IsMoved}
 
 module _ (seconds ms : ℕ) where
   -- nobody asks too late by the same measure

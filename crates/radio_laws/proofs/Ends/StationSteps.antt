@@ -1,25 +1,11 @@
 -- what an outcome makes of the fallbacks that were set, and of the number that was given last
 use Rattle.std.proofs.Common.{◌+◌, ◌≡◌, ℕ, Option, Some, None, List, [], ◌∷◌, refl, ap}
-use Rattle.std.specs.Prelude.{fold}
-use Rattle.radio_parts_mount.specs.Sessions.{Session, session_of}
-use Rattle.radio_parts_station.specs.Fallbacks.{with_fallback}
-use Rattle.radio_parts_station.specs.StationState.{StationState}
-use Rattle.radio_parts_station.specs.Streams.{shown_for}
-use Rattle.radio_parts_station.specs.World.{World}
+use Rattle.radio_laws.proofs.Words.{fold, Session, session_of, with_fallback, StationState, shown_for, World, MoveClients, KillClient, KillSource, SetFallback, AddUser, DeleteUser, Event, Obey, answered, changed}
+use Rattle.radio_laws.proofs.Words.{before_silence, silent_in, session_silenced, session_killed, session_begun, session_raised, Outcome, IsCommanded, outcome, world_after, Way, Misplaced, IsFinished, IsDenied, IsRefused}
+use Rattle.radio_laws.proofs.Words.{IsAdmitted, Begins, ComesUp, Receives, SetsTitle, TakesSeat, HandsOut, Ends, EndsAndLeaves, Leaves, GoesDown, Obeys, Shows, HasPassed, Ticks, station_called, way_of}
 use Rattle.radio_events.specs.declared.command.Command.{Command as TheCommand}
-use Rattle.radio_events.specs.declared.command.Command.TheVariants.{MoveClients, KillClient, KillSource, SetTitle as NewTitle}
-use Rattle.radio_events.specs.declared.command.Command.TheVariants.{SetFallback, AddUser, DeleteUser}
-use Rattle.radio_events.specs.declared.event.Event.{Event}
-use Rattle.radio_parts_changes.specs.declared.change.Change.TheVariants.{Obey}
-use Rattle.radio_parts_changes.specs.Changes.{answered, changed, before_silence, silent_in, session_silenced, session_killed, session_begun, session_raised}
-use Rattle.radio_parts.specs.declared.outcome.Outcome.{Outcome}
-use Rattle.radio_parts.specs.Allowed.{IsCommanded}
-use Rattle.radio_parts.specs.Step.{outcome, world_after}
-use Rattle.radio_parts.specs.Ways.{Way, Misplaced, IsFinished, IsDenied, IsRefused, IsAdmitted, Begins, ComesUp, Receives, SetsTitle, TakesSeat, HandsOut, Ends}
-use Rattle.radio_parts.specs.Ways.{EndsAndLeaves, Leaves, GoesDown, Obeys, Shows, HasPassed, Ticks}
-use Rattle.radio_parts.proofs.CalledStation.{station_called}
+use Rattle.radio_events.specs.declared.command.Command.TheVariants.{SetTitle as NewTitle}
 use Rattle.radio_core.proofs.Commands.CommandLemmas.{obeyed_last}
-use Rattle.radio_parts.proofs.Ways.{way_of}
 
 pub data StationStep (w : World) (event : Event) (station : StationState) : Type 0 where
   -- they are as they were

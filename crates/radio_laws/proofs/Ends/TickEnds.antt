@@ -1,28 +1,10 @@
 -- which listeners wait after the clock ends a session, and the law of time
 use Rattle.std.proofs.Common.{◌≡◌, ◌⊎◌, inl, inr, true, false, Bool, ℕ, Some, None, List, [], ◌∷◌, refl, ap, sym, subst, ◌∙◌}
-use Rattle.std.specs.Prelude.{if◌then◌else◌, fold}
-use Rattle.radio_policy.specs.declared.rule.Rule.TheVariants.{HeaderTimeout, TimeOver}
-use Rattle.radio_settings_values.specs.declared.settings.Settings.{Settings}
-use Rattle.radio_tables.proofs.KeyLaws.{by_name}
-use Rattle.radio_seats_rows.specs.declared.seat.Seat.{Seat}
-use Rattle.radio_seats_rows.specs.Seats.{seat_of}
+use Rattle.radio_laws.proofs.Words.{if◌then◌else◌, fold, HeaderTimeout, TimeOver, Settings, by_name, Seat, seat_of, Clock, Session, session_of, end_of, has_sat_out, is_silent, is_over, is_on_demand, World, Nothing, Tick}
+use Rattle.radio_laws.proofs.Words.{changed, session_over, session_ended, before_silence, session_silenced, silent_in, ticked, Brings, BySilence, IsSound, outcome, world_after, heard_cases, timed, fates_sat_out}
+use Rattle.radio_laws.proofs.Words.{fates_silence, IsOnTheWay, goes_on, IsInTime, IsEndedInOrder, NobodyOutstays, SittersAreLetIn}
 use Rattle.radio_fallback.specs.declared.moves.Move.TheVariants.{Ended as SessionEnds}
-use Rattle.radio_events.specs.declared.event.Event.TheVariants.{Clock}
-use Rattle.radio_parts_mount.specs.Sessions.{Session, session_of}
-use Rattle.radio_parts_mount.specs.Stream.{end_of}
-use Rattle.radio_parts_mount.specs.Timeouts.{has_sat_out, is_silent}
-use Rattle.radio_parts_mount.proofs.SessionLookups.{is_over}
-use Rattle.radio_parts_station.specs.Waiting.{is_on_demand}
-use Rattle.radio_parts_station.specs.World.{World}
-use Rattle.radio_parts_changes.specs.declared.change.Change.TheVariants.{Nothing, Tick}
-use Rattle.radio_parts_changes.specs.Changes.{changed, session_over, session_ended, before_silence, session_silenced, silent_in, ticked}
-use Rattle.radio_core.specs.Moves.{Brings, BySilence}
-use Rattle.radio_core.specs.Sound.{IsSound}
-use Rattle.radio_parts.specs.Step.{outcome, world_after}
-use Rattle.radio_parts.proofs.HeardLemmas.{heard_cases}
-use Rattle.radio_core.proofs.Sessions.TickLemmas.{timed, fates_sat_out, fates_silence, IsOnTheWay, at_first, goes_on}
-use Rattle.radio_laws.specs.Outstaying.{IsInTime, IsEndedInOrder, NobodyOutstays}
-use Rattle.radio_laws.specs.Users.{SittersAreLetIn}
+use Rattle.radio_core.proofs.Sessions.TickLemmas.{at_first}
 use Rattle.radio_laws.proofs.Ends.InTime.{in_time}
 use Rattle.radio_laws.proofs.Seats.LimitLemmas.{Within}
 use Rattle.radio_laws.proofs.Ends.TickOrder.{finished_on, too_late, time_over, silent_source, still_there, sits_at_first, sits_no_more, left_there}

@@ -1,52 +1,22 @@
 -- which clients end at a moment, and by which rule
 use Rattle.std.proofs.Common.{◌≡◌, ◌⊎◌, ◌==◌, inl, inr, true, false, Bool, ℕ, Option, Some, None, is_some, List, [], ◌∷◌, refl, ap, sym, subst, ◌∙◌}
-use Rattle.std.specs.Prelude.{if◌then◌else◌, fold}
-use Rattle.std.specs.Option.{option_map, option_map_or}
-use Rattle.std.specs.Str.{bytes_eq}
-use Rattle.radio_policy.specs.declared.rule.Rule.{Rule}
-use Rattle.radio_policy.specs.declared.rule.Rule.TheVariants.{HeaderTimeout, TimeOver, SourceSilent, NotLive}
-use Rattle.radio_settings_values.specs.declared.settings.Settings.{Settings}
-use Rattle.radio_settings_values.specs.Options.{options_for}
-use Rattle.radio_parts_station.specs.Fallbacks.{Fallback, set_for}
-use Rattle.radio_tables.proofs.KeyLaws.{by_number, by_name}
-use Rattle.radio_seats_rows.specs.declared.seat.Listener.{Listener}
-use Rattle.radio_seats_rows.specs.declared.seat.Seat.{Seat}
-use Rattle.radio_seats_rows.specs.declared.seat.Seating.{Seating}
+use Rattle.radio_laws.proofs.Words.{if◌then◌else◌, fold, option_map, option_map_or, bytes_eq, Rule, HeaderTimeout, TimeOver, SourceSilent, NotLive, Settings, options_for, Fallback, set_for, by_number, by_name, Listener}
+use Rattle.radio_laws.proofs.Words.{Seat, Seating, LosesSeat, have_ended, same_or_loses, listener_seated, listener_of, seat_held, seat_in, seat_of, ended_if, finished_if, without_listener, AreByNumber, GoesTo, IsOut}
+use Rattle.radio_laws.proofs.Words.{WalkFinding, Landing, Lands, Stops, found_at, stop_of, stop_in, landing, walks_on, turn_in, at_his_turn, Faring, HasStayed, HasGone, HasLost, fares, sits_as_before}
+use Rattle.radio_laws.proofs.Words.{stopped_where_it_begins, Clock, Standing, Undecided, Feeds, Sits, session_over, session_ended, before_silence, session_silenced, silent_in, ticked, Client, client_of}
+use Rattle.radio_laws.proofs.Words.{with_client_state, Relay, relay_of, sight_of, fallback_of, Cause, SessionIsOver, IsFarBehind, HasSatOut, HasAskedNothing, HasSentNothing, HisSessionIsKilled, IsNotAccepted, TakesTo}
+use Rattle.radio_laws.proofs.Words.{his_turn, Session, session_of, IsSound, has_sat_out, is_silent, asks_too_late, timed_out, World, standing_of, standing_of_found, Fate, GoesOn, IsEnded, HasStopped, HasEnded, Nobody}
+use Rattle.radio_laws.proofs.Words.{IsActive, sound_fates, lost_in, is_over, ClockCause, ClockCarries, ClockFates, asking_at, clients_after, timed, sound_timed, IsOnTheWay, goes_on, live_there, silenced_fates, turned}
+use Rattle.radio_laws.proofs.Words.{ticked_fates, heard_cases, is_on_demand}
 use Rattle.radio_seats_rows.specs.declared.seat.Seating.TheVariants.{Sits as HasSeat, Finished as HasLostIt}
-use Rattle.radio_seats_rows.proofs.EndLaws.{LosesSeat, have_ended, same_or_loses}
-use Rattle.radio_seats_rows.proofs.SeatLaws.{listener_seated}
-use Rattle.radio_seats_rows.specs.Seats.{listener_of, seat_held, seat_in, seat_of, ended_if, finished_if, without_listener, AreByNumber}
 use Rattle.radio_fallback.specs.declared.moves.Move.TheVariants.{Ended as SessionEnds}
-use Rattle.radio_fallback.specs.declared.moves.MoveEffect.TheVariants.{Stays as TurnStays, GoesTo, IsOut}
-use Rattle.radio_fallback.specs.declared.walking.WalkFinding.{WalkFinding}
-use Rattle.radio_fallback.specs.declared.walking.Landing.{Landing}
-use Rattle.radio_fallback.specs.declared.walking.Landing.TheVariants.{Lands, Stops}
-use Rattle.radio_fallback.specs.Walk.{found_at, stop_of, stop_in, landing}
-use Rattle.radio_fallback.specs.Carry.{walks_on, turn_in, at_his_turn}
-use Rattle.radio_fallback.proofs.Faring.{Faring, HasStayed, HasGone, HasLost, fares, sits_as_before}
-use Rattle.radio_fallback.proofs.WalkLaws.{stopped_where_it_begins}
-use Rattle.radio_events.specs.declared.event.Event.TheVariants.{Clock}
+use Rattle.radio_fallback.specs.declared.moves.MoveEffect.TheVariants.{Stays as TurnStays}
 use Rattle.radio_parts_station.specs.declared.clients.ClientState.TheVariants.{Undecided as IsNew, Ended}
-use Rattle.radio_parts_station.specs.declared.standing.Standing.{Standing}
-use Rattle.radio_parts_station.specs.declared.standing.Standing.TheVariants.{Undecided, Feeds, Sits, Finished}
-use Rattle.radio_parts_changes.specs.Changes.{session_over, session_ended, before_silence, session_silenced, silent_in, ticked}
-use Rattle.radio_parts_station.specs.Clients.{Client, client_of, with_client_state}
-use Rattle.radio_parts_station.specs.Relays.{Relay, relay_of}
-use Rattle.radio_parts_station.specs.Facts.{sight_of, fallback_of}
-use Rattle.radio_core.specs.Finishes.{Cause, SessionIsOver, IsFarBehind, HasSatOut, HasAskedNothing, HasSentNothing, IsKilled, HisSessionIsKilled, IsNotAccepted}
-use Rattle.radio_core.specs.Moves.{TakesTo, his_turn}
-use Rattle.radio_parts_mount.specs.Sessions.{Session, session_of}
-use Rattle.radio_core.specs.Sound.{IsSound}
-use Rattle.radio_parts_mount.specs.Timeouts.{has_sat_out, is_silent}
-use Rattle.radio_parts_station.specs.Timeouts.{asks_too_late, timed_out}
-use Rattle.radio_parts_station.specs.World.{World, standing_of, standing_of_found}
-use Rattle.radio_core.proofs.Clients.Fates.{Fate, GoesOn, IsEnded, HasStopped, IsMoved, HasEnded, Nobody, IsActive, sound_fates, lost_in}
-use Rattle.radio_parts_mount.proofs.SessionLookups.{is_over}
-use Rattle.radio_core.proofs.Sessions.TickLemmas.{ClockCause, ClockCarries, ClockFates, asking_at, clients_after, timed, sound_timed}
-use Rattle.radio_core.proofs.Sessions.TickLemmas.{IsOnTheWay, at_first, goes_on, live_there, silenced_fates, turned, ticked_fates}
+use Rattle.radio_parts_station.specs.declared.standing.Standing.TheVariants.{Finished}
+use Rattle.radio_core.specs.Finishes.{IsKilled}
+use Rattle.radio_core.proofs.Clients.Fates.{IsMoved}
+use Rattle.radio_core.proofs.Sessions.TickLemmas.{at_first}
 use Rattle.radio_core.proofs.Seats.HeardApart.{sits_past_zero}
-use Rattle.radio_parts.proofs.HeardLemmas.{heard_cases}
-use Rattle.radio_parts_station.specs.Waiting.{is_on_demand}
 use Rattle.radio_laws.proofs.Seats.HeardLaws.{nothing_heard}
 use Rattle.radio_laws.proofs.Ends.StationSteps.{silence_keeps}
 use Rattle.radio_laws.proofs.Ends.InTime.{in_time}

@@ -1,18 +1,8 @@
 -- the law of clients whose reply says that they were finished
 use Rattle.std.proofs.Common.{◌≡◌, ◌⊎◌, inl, inr, ℕ, List, [], ◌∷◌, ◌++◌, refl, ap}
-use Rattle.radio_policy.specs.declared.rule.Rule.{Rule}
-use Rattle.radio_settings_values.specs.declared.settings.Settings.{Settings}
-use Rattle.radio_access.specs.Lists.{Lists}
-use Rattle.radio_events.specs.declared.event.Event.{Event}
+use Rattle.radio_laws.proofs.Words.{Rule, Settings, Lists, Event, World, opening, standing_of, Finishes, world_after_all, run_after, IsSound, world_after, sound_after, sound_opening, finish_step, finished_told}
 use Rattle.radio_parts_station.specs.declared.standing.Standing.TheVariants.{Finished as HasFinished}
-use Rattle.radio_parts_station.specs.World.{World, opening, standing_of}
-use Rattle.radio_core.specs.Finishes.{Finishes}
-use Rattle.radio_core.specs.Run.{world_after_all, run_after}
-use Rattle.radio_core.specs.Sound.{IsSound}
-use Rattle.radio_parts.specs.Step.{world_after}
-use Rattle.radio_core.proofs.Sound.SoundRuns.{sound_after, sound_opening}
 use Rattle.radio_laws.specs.FinishesTold.{WasFinished, FinishedAreTold}
-use Rattle.radio_core.proofs.Clients.FinishLemmas.{finish_step, finished_told}
 
 -- from any state on: a client that is finished in the end was finished at the start, or one of the events has finished it
 record Put (w : World) (events : List Event) (id : ℕ) (rule : Rule) : Type 0 where

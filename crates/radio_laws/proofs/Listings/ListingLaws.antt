@@ -1,49 +1,16 @@
 -- which clients are shown a listing, and what it shows
 use Rattle.std.proofs.Common.{◌≡◌, ◌⊎◌, inl, inr, ◌||◌, ◌&&◌, Bool, true, false, ℕ, Option, Some, None, List, refl, ap, sym, subst, ◌∙◌, [], ◌∷◌}
-use Rattle.std.specs.Prelude.{not}
-use Rattle.std.specs.Option.{option_map_or}
-use Rattle.std.specs.Str.{bytes_eq}
-use Rattle.std.proofs.lemmas.Slice.Eq.{bytes_eq-Decides}
-use Rattle.radio_policy.specs.declared.judgement.Verdict.{Verdict}
-use Rattle.radio_policy.specs.declared.judgement.Verdict.TheVariants.{Allow}
-use Rattle.radio_policy.specs.declared.rule.Rule.TheVariants.{AdminPassword, RelayPassword, NoMount}
-use Rattle.radio_policy.specs.Table.{row, command_rows}
-use Rattle.radio_policy.specs.Verdicts.{verdict_in}
-use Rattle.radio_addr.specs.declared.peer.Peer.{Peer}
-use Rattle.radio_creds.specs.Credentials.{Credentials}
+use Rattle.radio_laws.proofs.Words.{not, option_map_or, bytes_eq, bytes_eq-Decides, Verdict, Allow, AdminPassword, RelayPassword, NoMount, row, command_rows, verdict_in, Peer, Credentials, is_admin_pair, is_relay_pair}
+use Rattle.radio_laws.proofs.Words.{is_relays, is_user_with, Asked, Listing, Status, Stats, Mounts, Clients, Streams, Event, Command, ReplyText, IsShort, Answer, Outcome, Standing, Undecided, Answered, changed}
+use Rattle.radio_laws.proofs.Words.{does_asked, shows, IsListed, is_live, facts_asked, rows_to_command, counts_by, shown, IsShownBy, IsListing, IsAtPath, page_at, client_in, if_undecided, on_verdict, outcome, reply_to}
+use Rattle.radio_laws.proofs.Words.{world_after, World, standing_of, asks, turns_answered, may_act, past_sent, IsTheRelays, MaySee, AsAnybody, AsARelay, IsThereToSee, IsShownByRight, IsShownAtPath, OnlyWhoMayIsShown}
+use Rattle.radio_laws.proofs.Words.{WhoMayIsShown, Tells}
 use Rattle.radio_settings_values.specs.declared.settings.RelayAccess.{RelayAccess}
-use Rattle.radio_access.specs.CommandPairs.{is_admin_pair, is_relay_pair, is_relays}
-use Rattle.radio_access.specs.SourcePair.{is_user_with}
-use Rattle.radio_events.specs.declared.command.Asked.{Asked}
 use Rattle.radio_events.specs.declared.command.Asked.TheVariants.{Listing as AsksFor}
-use Rattle.radio_events.specs.declared.command.Listing.{Listing}
-use Rattle.radio_events.specs.declared.command.Listing.TheVariants.{Status, Stats, Mounts, Clients, Streams}
-use Rattle.radio_events.specs.declared.event.Event.{Event}
-use Rattle.radio_events.specs.declared.event.Event.TheVariants.{Command}
 use Rattle.radio_events.specs.declared.reply.Reply.TheVariants.{Text as SaysText}
-use Rattle.radio_events.specs.declared.text.ReplyText.{ReplyText}
-use Rattle.radio_events.specs.Texts.{IsShort}
-use Rattle.radio_parts_changes.specs.declared.change.Change.TheVariants.{Answer}
-use Rattle.radio_parts.specs.declared.outcome.Outcome.{Outcome}
-use Rattle.radio_parts_station.specs.declared.standing.Standing.{Standing}
-use Rattle.radio_parts_station.specs.declared.standing.Standing.TheVariants.{Undecided, Answered}
-use Rattle.radio_parts_changes.specs.Changes.{changed}
-use Rattle.radio_parts.specs.Command.{does_asked, shows}
-use Rattle.radio_parts.specs.Allowed.{IsListed}
-use Rattle.radio_parts_facts.specs.CommandFacts.{is_live, facts_asked, rows_to_command}
-use Rattle.radio_parts_changes.specs.Counts.{counts_by}
-use Rattle.radio_parts_facts.specs.Listings.{shown}
-use Rattle.radio_parts.specs.Pages.{IsShownBy, IsListing, IsAtPath}
-use Rattle.radio_parts_facts.specs.Pages.{page_at}
-use Rattle.radio_events.specs.Events.{client_in}
-use Rattle.radio_parts.specs.Outcomes.{if_undecided, on_verdict}
-use Rattle.radio_parts.specs.Step.{outcome, reply_to, world_after}
-use Rattle.radio_parts_station.specs.World.{World, standing_of}
-use Rattle.radio_core.proofs.Clients.Standings.{asks, turns_answered}
-use Rattle.radio_core.proofs.Commands.AllowedCommands.{may_act, past_sent}
 use Rattle.radio_laws.proofs.Denials.GrantedLemmas.{IsToldFor, ByShowing, ByDoing}
 use Rattle.radio_laws.proofs.Listings.ToldTexts.{told_for}
-use Rattle.radio_laws.specs.Shown.{IsTheRelays, MaySee, AsAnybody, AsARelay, AsTheAdmin, IsThereToSee, IsShownByRight, IsShownAtPath, OnlyWhoMayIsShown, WhoMayIsShown, Tells}
+use Rattle.radio_laws.specs.Shown.{AsTheAdmin}
 use Rattle.radio_laws.proofs.Commands.CommandLaws.{lives_by, login_sent, one_of}
 use Rattle.radio_laws.proofs.Seats.WalkLemmas.{both}
 use Rattle.radio_laws.proofs.Commands.CommandService.{is_its, or_true, lives, with_mount, judged, said_short}

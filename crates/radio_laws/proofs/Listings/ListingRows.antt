@@ -1,26 +1,9 @@
 -- what the rows of listings say
 use Rattle.std.proofs.Common.{◌≡◌, ℕ, Bool, true, false, Option, Some, List, [], ◌∷◌, refl, ap, ◌∙◌, arith}
-use Rattle.std.specs.Prelude.{map}
-use Rattle.std.specs.Option.{option_map, option_map_or}
-use Rattle.std.specs.Str.{bytes_eq}
-use Rattle.radio_creds.specs.Credentials.{Credentials}
-use Rattle.radio_settings_values.specs.Options.{options_for}
-use Rattle.radio_seats_rows.specs.declared.seat.Listener.{Listener}
-use Rattle.radio_seats_rows.specs.declared.seat.Seat.{Seat}
-use Rattle.radio_seats_rows.specs.declared.seat.Seating.{Seating}
-use Rattle.radio_seats_rows.specs.declared.seat.Seating.TheVariants.{Sits, Finished}
-use Rattle.radio_seats.specs.Listed.{guests_at}
-use Rattle.radio_seats_rows.specs.Seats.{seats_at}
-use Rattle.radio_listing.specs.declared.rows.ListedListener.{ListedListener}
-use Rattle.radio_events.specs.declared.command.Listing.{Listing}
-use Rattle.radio_events.specs.declared.command.Listing.TheVariants.{Status, Stats, Mounts, Clients, Streams}
-use Rattle.radio_parts_station.specs.Facts.{fallback_of}
-use Rattle.radio_parts_station.specs.Fallbacks.{Fallback}
-use Rattle.radio_parts_facts.specs.Listings.{shown, row_of_session, mount_rows, listener_row, listener_rows, seconds_since, user_of}
-use Rattle.radio_parts_mount.specs.Sessions.{Session}
-use Rattle.radio_parts_station.specs.World.{World}
-use Rattle.radio_laws.specs.Shown.{TellsOf, TellOf, TellsOfListener, TellOfListeners, Tells}
-use Rattle.radio_laws.specs.Walks.{FallsBack, ByTheSettings, ByACommand}
+use Rattle.radio_laws.proofs.Words.{map, option_map, option_map_or, bytes_eq, Credentials, options_for, Listener, Seat, Seating, Finished, guests_at, seats_at, ListedListener, Listing, Status, Stats, Mounts, Clients}
+use Rattle.radio_laws.proofs.Words.{Streams, fallback_of, Fallback, shown, row_of_session, mount_rows, listener_row, listener_rows, seconds_since, user_of, Session, World, TellsOf, TellOf, TellsOfListener}
+use Rattle.radio_laws.proofs.Words.{TellOfListeners, Tells, FallsBack, ByTheSettings, ByACommand}
+use Rattle.radio_seats_rows.specs.declared.seat.Seating.TheVariants.{Sits}
 use Rattle.radio_laws.proofs.Seats.WalkLemmas.{falls_back}
 
 module _ (w : World) where

@@ -1,40 +1,22 @@
 -- what everybody sees is what the public mounts show
 use Rattle.std.proofs.Common.{◌≡◌, Bool, true, false, ℕ, ◌++◌, Option, Some, List, [], ◌∷◌, refl, ap, sym, ◌∙◌, if◌then◌else◌}
-use Rattle.std.specs.Prelude.{not, map, filter, length, flat_map, unwrap_or}
+use Rattle.radio_laws.proofs.Words.{not, map, filter, length, flat_map, unwrap_or, options_for, ListedListener, CommandRequest, Listing, Status, Stats, Mounts, Clients, Streams, Event, Listen, Command, ListenRequest}
+use Rattle.radio_laws.proofs.Words.{web_path, WebPath, IcecastStatus, IsShownBy, IsListing, IsAtPath, page_at, server_as, ReplyText, about_row, shown, row_of_session, mount_rows, public_row, Session, reply_to, World}
+use Rattle.radio_laws.proofs.Words.{Seen, seen, is_public, public_live, seen_by_all, body_of, AreAnsweredAlike, AreVisitedAlike, SightIsKept, HiddenAreLeftOut, HiddenAreNotToldOnTheWeb}
 use Rattle.std.specs.Str.Lossy.{utf8_lossy}
-use Rattle.radio_settings_values.specs.Options.{options_for}
 use Rattle.radio_listing.specs.declared.rows.MountRow.{MountRow}
-use Rattle.radio_listing.specs.declared.rows.ListedListener.{ListedListener}
 use Rattle.radio_listing.specs.declared.rows.PublicRow.{PublicRow}
 use Rattle.radio_listing.specs.Admin.{stats_text, mounts_text}
 use Rattle.radio_listing.specs.Laws.{LookAlike, mounts_named, shown_names, shown_urls, urls_told}
 use Rattle.radio_listing.specs.Listeners.{listeners_text}
 use Rattle.radio_listing.specs.Public.{rows_shown, status_data, stream_line, stream_text}
 use Rattle.radio_events.specs.declared.command.Asked.TheVariants.{Listing as AsksFor}
-use Rattle.radio_events.specs.declared.command.CommandRequest.{CommandRequest}
-use Rattle.radio_events.specs.declared.command.Listing.{Listing}
-use Rattle.radio_events.specs.declared.command.Listing.TheVariants.{Status, Stats, Mounts, Clients, Streams}
-use Rattle.radio_events.specs.declared.event.Event.{Event}
-use Rattle.radio_events.specs.declared.event.Event.TheVariants.{Listen, Command}
-use Rattle.radio_events.specs.declared.event.ListenRequest.{ListenRequest}
-use Rattle.radio_settings_values.specs.Web.{web_path}
-use Rattle.radio_settings_values.specs.declared.web.WebPath.{WebPath}
-use Rattle.radio_settings_values.specs.declared.web.WebPath.TheVariants.{IcecastStatus}
 use Rattle.radio_listing.specs.declared.rows.ListedServer.{ListedServer}
 use Rattle.radio_listing.specs.Icecast.{icecast_data, icecast_text}
-use Rattle.radio_parts.specs.Pages.{IsShownBy, IsListing, IsAtPath}
-use Rattle.radio_parts_facts.specs.Pages.{page_at, server_as}
 use Rattle.radio_events.specs.declared.reply.Reply.TheVariants.{Text as SaysText}
-use Rattle.radio_events.specs.declared.text.ReplyText.{ReplyText}
 use Rattle.radio_events.specs.declared.text.ReplyText.TheVariants.{Streams as StreamList}
-use Rattle.radio_parts_facts.specs.Listings.{about_row, shown, row_of_session, mount_rows, public_row}
-use Rattle.radio_parts_mount.specs.Sessions.{Session}
-use Rattle.radio_parts.specs.Step.{reply_to}
-use Rattle.radio_parts_station.specs.World.{World}
 use Rattle.radio_laws.proofs.Denials.GrantedLemmas.{IsToldFor, ByShowing, ByDoing}
 use Rattle.radio_laws.proofs.Listings.ToldTexts.{told_for}
-use Rattle.radio_laws.specs.Shown.{Seen, seen, is_public, public_live, seen_by_all, body_of, AreAnsweredAlike, AreVisitedAlike, SightIsKept}
-use Rattle.radio_laws.specs.Shown.{HiddenAreLeftOut, HiddenAreNotToldOnTheWeb}
 use Rattle.radio_laws.proofs.Listings.WebLaws.{is_on}
 
 -- a request for a listing that is answered by a text is answered by the listing

@@ -1,11 +1,7 @@
 -- why a client gets a text
 use Rattle.std.proofs.Common.{◌≡◌, ap, subst, true}
-use Rattle.radio_events.specs.declared.event.Event.{Event}
+use Rattle.radio_laws.proofs.Words.{Event, ReplyText, Outcome, outcome, reply_to, World}
 use Rattle.radio_events.specs.declared.reply.Reply.TheVariants.{Text as SaysText}
-use Rattle.radio_events.specs.declared.text.ReplyText.{ReplyText}
-use Rattle.radio_parts.specs.declared.outcome.Outcome.{Outcome}
-use Rattle.radio_parts.specs.Step.{outcome, reply_to}
-use Rattle.radio_parts_station.specs.World.{World}
 use Rattle.radio_laws.proofs.Denials.GrantedLemmas.{IsToldFor, Granted, AdmitsClient, AdmitsSource, AdmitsRelay, AdmitsListener, HandsData, TellsText, GrantsNothing, grants, granted}
 
 told_by : (w : World) (event : Event) (o : Outcome) → Granted w event o → (text : ReplyText) → o.reply ≡ SaysText text → IsToldFor w event text

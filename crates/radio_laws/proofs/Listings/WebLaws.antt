@@ -1,39 +1,13 @@
 -- what is shown at the paths of the web site
 use Rattle.std.proofs.Common.{◌≡◌, ◌⊎◌, inl, inr, ◌&&◌, Bool, true, false, not, ℕ, Option, Some, None, is_some, List, refl, ap, sym, subst, ◌∙◌, if◌then◌else◌}
-use Rattle.std.specs.Prelude.{codes}
-use Rattle.std.specs.Str.{bytes_eq}
-use Rattle.std.proofs.lemmas.Slice.Eq.{bytes_eq-Decides}
-use Rattle.radio_policy.specs.declared.rule.Rule.TheVariants.{BadMount}
-use Rattle.radio_policy.specs.Table.{source_rows}
-use Rattle.radio_policy.specs.Verdicts.{verdict_in}
-use Rattle.radio_addr.specs.declared.peer.Peer.{Peer}
+use Rattle.radio_laws.proofs.Words.{codes, bytes_eq, bytes_eq-Decides, BadMount, source_rows, verdict_in, Peer, web_path, WebPath, IcecastStatus, Event, Listen, ListenRequest, SourceRequest, Deny, ReplyText, Answer}
+use Rattle.radio_laws.proofs.Words.{Outcome, Standing, Undecided, Answered, changed, names_mount, source_facts_at, mount_rows, says, if_undecided, on_verdict, asks_by, shows_page, page_at, server_as, begins, outcome}
+use Rattle.radio_laws.proofs.Words.{reply_to, world_after, World, standing_of, asks, turns_answered, IsPath, StatusIsOn, PageIsOn, TellsAt, IsShownAtPath, WhoVisitsIsShown, NobodyFeedsAPath}
 use Rattle.radio_values.specs.MountName.{is_mount_name}
-use Rattle.radio_settings_values.specs.Web.{web_path}
-use Rattle.radio_settings_values.specs.declared.web.WebPath.{WebPath}
-use Rattle.radio_settings_values.specs.declared.web.WebPath.TheVariants.{IcecastStatus, Page as AtPage}
+use Rattle.radio_settings_values.specs.declared.web.WebPath.TheVariants.{Page as AtPage}
 use Rattle.radio_settings_values.specs.declared.web.WebSettings.{WebSettings}
-use Rattle.radio_events.specs.declared.event.Event.{Event}
-use Rattle.radio_events.specs.declared.event.Event.TheVariants.{Listen}
-use Rattle.radio_events.specs.declared.event.ListenRequest.{ListenRequest}
-use Rattle.radio_events.specs.declared.event.SourceRequest.{SourceRequest}
 use Rattle.radio_events.specs.declared.event.PageVisit.{PageVisit}
-use Rattle.radio_events.specs.declared.reply.Reply.TheVariants.{Text as SaysText, Deny}
-use Rattle.radio_events.specs.declared.text.ReplyText.{ReplyText}
-use Rattle.radio_parts_changes.specs.declared.change.Change.TheVariants.{Answer}
-use Rattle.radio_parts.specs.declared.outcome.Outcome.{Outcome}
-use Rattle.radio_parts_station.specs.declared.standing.Standing.{Standing}
-use Rattle.radio_parts_station.specs.declared.standing.Standing.TheVariants.{Undecided, Answered}
-use Rattle.radio_parts_changes.specs.Changes.{changed}
-use Rattle.radio_parts_station.specs.Facts.{names_mount, source_facts_at}
-use Rattle.radio_parts_facts.specs.Listings.{mount_rows}
-use Rattle.radio_parts.specs.Outcomes.{says, if_undecided, on_verdict}
-use Rattle.radio_parts.specs.Pages.{asks_by, shows_page}
-use Rattle.radio_parts_facts.specs.Pages.{page_at, server_as}
-use Rattle.radio_parts.specs.Source.{begins}
-use Rattle.radio_parts.specs.Step.{outcome, reply_to, world_after}
-use Rattle.radio_parts_station.specs.World.{World, standing_of}
-use Rattle.radio_core.proofs.Clients.Standings.{asks, turns_answered}
-use Rattle.radio_laws.specs.Shown.{IsPath, StatusIsOn, PageIsOn, TellsAt, IsShownAtPath, WhoVisitsIsShown, NobodyFeedsAPath}
+use Rattle.radio_events.specs.declared.reply.Reply.TheVariants.{Text as SaysText}
 use Rattle.radio_laws.proofs.Listings.ListingRows.{rows_tell}
 
 -- the settings' words for a path

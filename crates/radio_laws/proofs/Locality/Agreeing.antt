@@ -1,31 +1,13 @@
 -- what is looked up in states that agree within reach
 use Rattle.std.proofs.Common.{◌≡◌, ◌⊎◌, inl, inr, Bool, true, false, ℕ, ◌==◌, Option, Some, None, List, not, refl, ap, sym, subst, ◌∙◌}
-use Rattle.std.specs.Prelude.{map, is_some, length, if◌then◌else◌}
-use Rattle.std.specs.Option.{option_map}
-use Rattle.std.specs.Ordering.{nat_cmp}
-use Rattle.std.specs.Cmp.Lexicographic.{slice_cmp}
-use Rattle.std.specs.Str.{bytes_eq}
-use Rattle.std.proofs.lemmas.Slice.Eq.{bytes_eq-Decides}
-use Rattle.radio_tables.proofs.FindLaws.{found_passes}
-use Rattle.radio_policy.specs.declared.rule.Rule.{Rule}
-use Rattle.radio_seats_rows.specs.declared.seat.Listener.{Listener}
-use Rattle.radio_seats_rows.specs.declared.seat.Seat.{Seat}
-use Rattle.radio_seats_rows.specs.declared.seat.Seating.{Seating}
-use Rattle.radio_seats_rows.specs.declared.seat.Seating.TheVariants.{Sits, Finished}
-use Rattle.radio_seats_rows.specs.Seats.{is_listener, listener_of, seat_of, seat_in, seat_held, by_listener, seated, with_seat, advanced, with_place, moved}
-use Rattle.radio_seats_rows.specs.Seats.{with_move, loses, with_end, hears_session, in_session_at, with_session_at}
-use Rattle.radio_seats_rows.specs.Seats.{lost_by, ended_if, heard_to, finished_if, with_ended, is_seat_at, without_listener, seats_at, count_at, is_user_at, sits_there, last_mount, last_mount_of}
-use Rattle.radio_seats.specs.Listed.{guest_at, guests_at}
-use Rattle.radio_parts_mount.specs.Sessions.{Session, is_of, session_of, by_mount, with_session, longer, fed, with_title, titled, without_session}
-use Rattle.radio_parts_mount.specs.Kept.{longer_kept, kept_fed}
-use Rattle.radio_laws.specs.Locality.{SessionsAgree, SameSession, FedBeyond, ListenersAgree, SameListener, LastBeyond, IsAll}
-use Rattle.radio_parts_table.specs.Agree.{AllAgree}
+use Rattle.radio_laws.proofs.Words.{map, is_some, length, if◌then◌else◌, option_map, nat_cmp, slice_cmp, bytes_eq, bytes_eq-Decides, found_passes, Rule, Listener, Seat, Seating, Finished, is_listener, listener_of}
+use Rattle.radio_laws.proofs.Words.{seat_of, seat_in, seat_held, by_listener, seated, with_seat, advanced, with_place, moved, with_move, loses, with_end, hears_session, in_session_at, with_session_at, lost_by, ended_if}
+use Rattle.radio_laws.proofs.Words.{heard_to, finished_if, with_ended, is_seat_at, without_listener, seats_at, count_at, is_user_at, sits_there, last_mount, last_mount_of, guest_at, guests_at, Session, is_of, session_of}
+use Rattle.radio_laws.proofs.Words.{by_mount, with_session, longer, fed, with_title, titled, without_session, longer_kept, kept_fed, SessionsAgree, SameSession, FedBeyond, ListenersAgree, SameListener, LastBeyond, IsAll}
+use Rattle.radio_laws.proofs.Words.{AllAgree, Lists, how_many, holds_of, is_shut_out}
+use Rattle.radio_seats_rows.specs.declared.seat.Seating.TheVariants.{Sits}
 use Rattle.radio_laws.proofs.Locality.AgreeingLists.{FoundAgree, NoneFound, BothFound, agree_length, agree_equal, agree_mapped, agree_kept, agree_any, agree_filtered, agree_found}
 use Rattle.radio_laws.proofs.Locality.AgreeingLists.{agree_updated, agree_picked, agree_each, agree_placed}
-use Rattle.radio_access.specs.Lists.{Lists}
-use Rattle.radio_seats_rows.specs.Rests.{how_many}
-use Rattle.radio_seats_rows.specs.Seats.{holds_of}
-use Rattle.radio_parts_station.specs.Outsiders.{is_shut_out}
 
 module _ (within : List ℕ → Bool) where
   -- what is beyond reach is at no mount within it

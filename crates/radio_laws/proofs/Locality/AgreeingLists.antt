@@ -1,13 +1,6 @@
 -- lists whose elements agree place by place, and what is made of them
 use Rattle.std.proofs.Common.{◌≡◌, ◌⊎◌, inl, inr, Bool, true, false, suc, Option, Some, None, List, [], ◌∷◌, refl, ap, ◌∙◌}
-use Rattle.std.specs.Prelude.{find, filter, filter_map, map, length, if◌then◌else◌}
-use Rattle.std.specs.List.{list_any}
-use Rattle.std.specs.declared.cmp.Ordering.{Ordering}
-use Rattle.std.specs.declared.cmp.Ordering.TheVariants.{Less, Equal, Greater}
-use Rattle.std.specs.Ordering.{match_ordering}
-use Rattle.radio_tables.specs.Lists.{update_first, placed}
-use Rattle.radio_tables.proofs.FindLaws.{find_here, find_later}
-use Rattle.radio_parts_table.specs.Agree.{AllAgree}
+use Rattle.radio_laws.proofs.Words.{find, filter, filter_map, map, length, if◌then◌else◌, list_any, Ordering, Less, Equal, Greater, match_ordering, update_first, placed, find_here, find_later, AllAgree}
 
 -- what is found in both agrees, or nothing is found in either
 pub data FoundAgree {X : Type 0} (R : X → X → Type 0) : Option X → Option X → Type 0 where

@@ -1,55 +1,21 @@
 -- the outcome of an event in states that agree on all that it can reach
 use Rattle.std.proofs.Common.{◌≡◌, Bool, true, false, ℕ, Option, Some, None, List, refl, ap, sym, ◌∙◌}
-use Rattle.std.specs.Option.{option_map_or}
-use Rattle.std.specs.Str.{bytes_eq}
-use Rattle.radio_addr.specs.declared.peer.Peer.{Peer}
-use Rattle.radio_creds.specs.Credentials.{Credentials}
-use Rattle.radio_settings_values.specs.declared.web.WebPath.{WebPath}
-use Rattle.radio_settings_values.specs.declared.web.WebPath.TheVariants.{IcecastStatus, Page as AtPage}
-use Rattle.radio_settings_values.specs.Web.{web_path}
-use Rattle.radio_policy.specs.Verdicts.{verdict_in}
-use Rattle.radio_seats_rows.specs.declared.seat.Listener.{Listener}
-use Rattle.radio_seats_rows.specs.declared.seat.Seat.{Seat}
-use Rattle.radio_seats_rows.specs.Seats.{seat_in, seat_of}
-use Rattle.radio_fallback.proofs.FitsLemmas.{sits_last}
-use Rattle.radio_parts_mount.specs.Sessions.{Session}
-use Rattle.radio_fallback.specs.declared.walking.WalkFinding.{WalkFinding}
-use Rattle.radio_fallback.specs.declared.walking.Landing.{Landing}
-use Rattle.radio_fallback.specs.declared.walking.Landing.TheVariants.{Lands, Stops}
-use Rattle.radio_fallback.specs.declared.moves.Move.TheVariants.{To}
-use Rattle.radio_events.specs.declared.command.Asked.{Asked}
+use Rattle.radio_laws.proofs.Words.{option_map_or, bytes_eq, Peer, Credentials, WebPath, IcecastStatus, web_path, verdict_in, Listener, Seat, seat_in, seat_of, sits_last, Session, WalkFinding, Landing, Lands, Stops, To}
+use Rattle.radio_laws.proofs.Words.{Asked, MoveClients, KillClient, KillSource, SetFallback, AddUser, DeleteUser, Status, Stats, Mounts, Clients, Streams, Event, Arrive, Source, Push, SourceEnd, Title, Listen, Draw}
+use Rattle.radio_laws.proofs.Words.{Command, Leave, RelayUp, RelayDown, Clock, ListenRequest, Nothing, Answer, Standing, Unknown, Sits, client_of, does_asked, facts_asked, needs_of, is_listener_at, hands_out_at}
+use Rattle.radio_laws.proofs.Words.{draws_so, rows_to_push, rows_to_listen, walks_to, listen_outcome, sits_where, if_undecided, if_feeding, if_sitting, on_verdict, asks_by, asks_by_path, takes_in, relay_of, outcome}
+use Rattle.radio_laws.proofs.Words.{World, standing_of, standing_of_found, IsAll, IsWithinReach, LastWithin, AsksWithin, HearsWithin, FallBackWithin, WalksWithin, Lists, with_user_at, without_user_at, how_many}
+use Rattle.radio_laws.proofs.Words.{is_shut_out}
+use Rattle.radio_settings_values.specs.declared.web.WebPath.TheVariants.{Page as AtPage}
 use Rattle.radio_events.specs.declared.command.Asked.TheVariants.{NoCommand, MissingArgument, Listing as AsksFor, Command as Asks}
 use Rattle.radio_events.specs.declared.command.Command.{Command as TheCommand}
-use Rattle.radio_events.specs.declared.command.Command.TheVariants.{MoveClients, KillClient, KillSource, SetTitle, SetFallback, AddUser, DeleteUser}
-use Rattle.radio_events.specs.declared.command.Listing.TheVariants.{Status, Stats, Mounts, Clients, Streams}
-use Rattle.radio_events.specs.declared.event.Event.{Event}
-use Rattle.radio_events.specs.declared.event.Event.TheVariants.{Arrive, Source, Push, SourceEnd, Title, Listen, Draw, Command, Leave}
-use Rattle.radio_events.specs.declared.event.Event.TheVariants.{RelayUp, RelayDown, Clock}
-use Rattle.radio_events.specs.declared.event.ListenRequest.{ListenRequest}
-use Rattle.radio_parts_changes.specs.declared.change.Change.TheVariants.{Nothing, Answer}
-use Rattle.radio_parts_station.specs.declared.standing.Standing.{Standing}
-use Rattle.radio_parts_station.specs.declared.standing.Standing.TheVariants.{Unknown, Undecided as IsUndecided, Feeds as IsFeeding, Sits, Answered as IsAnswered, Finished}
-use Rattle.radio_parts_station.specs.Clients.{client_of}
-use Rattle.radio_parts.specs.Command.{does_asked}
-use Rattle.radio_parts_facts.specs.CommandFacts.{facts_asked, needs_of, is_listener_at}
-use Rattle.radio_parts.proofs.DrawLemmas.{hands_out_at, draws_so}
-use Rattle.radio_parts_station.specs.Facts.{rows_to_push, rows_to_listen, walks_to}
-use Rattle.radio_parts.specs.Listen.{listen_outcome, sits_where}
-use Rattle.radio_parts.specs.Outcomes.{if_undecided, if_feeding, if_sitting, on_verdict}
-use Rattle.radio_parts.specs.Pages.{asks_by, asks_by_path}
-use Rattle.radio_parts.specs.Push.{takes_in}
-use Rattle.radio_parts_station.specs.Relays.{relay_of}
-use Rattle.radio_parts.specs.Step.{outcome}
-use Rattle.radio_parts_station.specs.World.{World, standing_of, standing_of_found}
-use Rattle.radio_laws.specs.Locality.{IsAll, IsWithinReach, LastWithin, AsksWithin, HearsWithin, FallBackWithin, WalksWithin}
+use Rattle.radio_events.specs.declared.command.Command.TheVariants.{SetTitle}
+use Rattle.radio_parts_station.specs.declared.standing.Standing.TheVariants.{Undecided as IsUndecided, Feeds as IsFeeding, Answered as IsAnswered, Finished}
 use Rattle.radio_laws.proofs.Locality.Agreeing.{beyond, SessionsDo, as_many_live, live_alike, session_alike, all_sessions, ListenersDo, SeatsAgree, SameSeat, BothBeyond}
 use Rattle.radio_laws.proofs.Locality.Agreeing.{listener_same, seat_alike, guests_alike, all_listeners, IsBeyond}
 use Rattle.radio_laws.proofs.Locality.AgreeingWalks.{Onward, found_alike, landing_alike, lands_within, counts_alike}
 use Rattle.radio_laws.proofs.Seats.WalkLemmas.{falls_back}
 use Rattle.radio_laws.proofs.Listings.WebLaws.{is_path}
-use Rattle.radio_access.specs.Lists.{Lists, with_user_at, without_user_at}
-use Rattle.radio_seats_rows.specs.Rests.{how_many}
-use Rattle.radio_parts_station.specs.Outsiders.{is_shut_out}
 use Rattle.radio_laws.proofs.Locality.Agreeing.{none_out, how_many_alike}
 
 -- the state with these sessions and listeners in place of its own

@@ -1,32 +1,13 @@
 -- walks and moves in states that agree within reach
 use Rattle.std.proofs.Common.{◌≡◌, Bool, true, false, ℕ, zero, suc, Option, Some, None, List, [], ◌∷◌, refl, ap, sym, ◌∙◌}
-use Rattle.std.specs.Prelude.{◌+◌, if◌then◌else◌, is_some, ◌||◌}
-use Rattle.std.proofs.lemmas.Slice.Eq.{bytes_eq-Decides}
-use Rattle.radio_creds.specs.Credentials.{Credentials}
-use Rattle.radio_policy.specs.declared.rule.Rule.{Rule}
-use Rattle.radio_seats_rows.specs.declared.seat.Listener.{Listener}
-use Rattle.radio_seats_rows.specs.declared.seat.Seat.{Seat}
-use Rattle.radio_seats_rows.specs.Seats.{seat_of, without_listener}
-use Rattle.radio_parts_mount.specs.Sessions.{Session, session_of}
-use Rattle.radio_fallback.specs.declared.walking.Landing.{Landing}
-use Rattle.radio_fallback.specs.declared.walking.Landing.TheVariants.{Lands, Stops}
-use Rattle.radio_fallback.specs.declared.moves.Carried.{Carried}
-use Rattle.radio_fallback.specs.declared.moves.Move.{Move}
-use Rattle.radio_fallback.specs.declared.moves.Move.TheVariants.{Ended, Up, To}
+use Rattle.radio_laws.proofs.Words.{◌+◌, if◌then◌else◌, is_some, ◌||◌, bytes_eq-Decides, Credentials, Rule, Listener, Seat, seat_of, without_listener, Session, session_of, Landing, Lands, Stops, Carried, Move, Ended, Up}
+use Rattle.radio_laws.proofs.Words.{To, Stays, GoesTo, IsOut, Sight, is_full, sits_already, is_full_for, found_at, stop_of, landing_at, landing_here, hands_on, next_mount, onward, walk, landing, concerns, walks_on}
+use Rattle.radio_laws.proofs.Words.{is_asked, turn_by, turn_in, turn_of, Carry, carry_after_move, turns, numbers_of, at_first, carried, is_out, walks_ten, sight_of, fallback_of, World, ListenersAgree, SameListener}
+use Rattle.radio_laws.proofs.Words.{heard_at, silence_of, option_or}
 use Rattle.radio_fallback.specs.declared.moves.MoveEffect.{MoveEffect}
-use Rattle.radio_fallback.specs.declared.moves.MoveEffect.TheVariants.{Stays, GoesTo, IsOut}
-use Rattle.radio_fallback.specs.Walk.{Sight, is_full, sits_already, is_full_for, found_at, stop_of, landing_at, landing_here, hands_on, next_mount, onward, walk, landing}
-use Rattle.radio_fallback.specs.Carry.{concerns, walks_on, is_asked, turn_by, turn_in, turn_of, Carry, carry_after_move, turns, numbers_of, at_first, carried}
-use Rattle.radio_fallback.proofs.FitsLemmas.{is_out}
-use Rattle.radio_fallback.proofs.WalkLaws.{walks_ten}
-use Rattle.radio_parts_station.specs.Facts.{sight_of, fallback_of}
-use Rattle.radio_parts_station.specs.World.{World}
-use Rattle.radio_laws.specs.Locality.{ListenersAgree, SameListener}
 use Rattle.radio_laws.proofs.Locality.AgreeingLists.{agree_all}
 use Rattle.radio_laws.proofs.Locality.Agreeing.{beyond, SessionsDo, live_alike, session_alike, ListenersDo, IsBeyond, SeatsAgree, SameSeat, BothBeyond, numbers_alike, seat_alike, count_alike, sits_alike}
 use Rattle.radio_laws.proofs.Locality.Agreeing.{without_alike, with_move_alike, with_end_alike}
-use Rattle.radio_parts_station.specs.Waiting.{heard_at, silence_of}
-use Rattle.std.specs.Option.{option_or}
 
 -- the state with these sessions in place of its own
 abbrev pub with_live : World → List Session → World

@@ -1,67 +1,22 @@
 -- what an event cannot reach is left alone: by the server, and by a control that was lent what it can reach
 use Rattle.std.proofs.Common.{◌≡◌, ◌⊎◌, inl, inr, Bool, true, false, ℕ, ◌==◌, Option, Some, None, List, refl, ap, sym, subst, ◌∙◌}
-use Rattle.std.specs.Prelude.{◌+◌, ◌↔◌, length}
-use Rattle.std.specs.Option.{option_map}
+use Rattle.radio_laws.proofs.Words.{◌+◌, ◌↔◌, length, option_map, nat_cmp, bytes_eq, find_apart, by_name, by_number, Lists, with_user_at, without_user_at, Rule, Killed, Lagged, ListenerPassword, options_for, Shown}
+use Rattle.radio_laws.proofs.Words.{Listener, Seat, Seating, Finished, AreByNumber, advanced, heard_to, is_listener, listener_of, seat_held, seat_in, seat_of, with_ended, with_end, with_place, with_seat, with_session_at}
+use Rattle.radio_laws.proofs.Words.{without_listener, LosesSeat, same_or_loses, seat_hearing, seat_of_hearing, same_number, beside_left, beside_moved, beside_seated, has_sat_down, is_no_listener, Move, To, at_his_turn}
+use Rattle.radio_laws.proofs.Words.{found_changed, out_beside, out_himself, Faring, HasGone, HasLost, HasStayed, fares, sits_last, kept_fed, longer_kept, Session, fed, is_of, opened, session_of, with_session, end_in}
+use Rattle.radio_laws.proofs.Words.{data_at, lags_behind, beside_begun, beside_ended, beside_fed, found_named, sight_of, is_shut_out, StationState, shown_for, World, standing_of, Feeds, answered, carried_along, changed}
+use Rattle.radio_laws.proofs.Words.{laggards_ended, session_killed, session_over, kept_changed, Advance, Begin, End, EndAndLeave, Forget, Obey, Raise, Receive, SetTitle, TakeSeat, Tick, is_taken_in, on_air_beside}
+use Rattle.radio_laws.proofs.Words.{MoveClients, KillClient, KillSource, SetFallback, AddUser, DeleteUser, Event, client_in, IsCommanded, Closes, OfClient, OfRelay, control_after, first_seat, planned, uncounted, outcome}
+use Rattle.radio_laws.proofs.Words.{world_after, Way, Misplaced, IsFinished, IsDenied, IsRefused, IsAdmitted, Begins, ComesUp, Receives, SetsTitle, TakesSeat, HandsOut, Ends, EndsAndLeaves, Leaves, GoesDown, Obeys}
+use Rattle.radio_laws.proofs.Words.{Shows, HasPassed, Ticks, Outcome, planned_so, way_of, IsSound, killed_seat, AgreeWithin, AsksWithin, ComesUpWithin, IsAll, IsLeftAlone, IsWithinReach, LastWithin, LeavesAlone}
+use Rattle.radio_laws.proofs.Words.{ReachesWithin, SameSession, SessionsAgree, WalksWithin}
 use Rattle.std.specs.List.Sorted.{IsStrictlySortedBy}
-use Rattle.std.specs.Ordering.{nat_cmp}
-use Rattle.std.specs.Str.{bytes_eq}
-use Rattle.radio_tables.proofs.FindLaws.{find_apart}
-use Rattle.radio_tables.proofs.KeyLaws.{by_name, by_number}
-use Rattle.radio_access.specs.Lists.{Lists, with_user_at, without_user_at}
-use Rattle.radio_policy.specs.declared.rule.Rule.{Rule}
-use Rattle.radio_policy.specs.declared.rule.Rule.TheVariants.{Killed, Lagged, ListenerPassword}
-use Rattle.radio_settings_values.specs.Options.{options_for}
-use Rattle.radio_values.specs.declared.field.Shown.{Shown}
-use Rattle.radio_seats_rows.specs.declared.seat.Listener.{Listener}
-use Rattle.radio_seats_rows.specs.declared.seat.Seat.{Seat}
-use Rattle.radio_seats_rows.specs.declared.seat.Seating.{Seating}
-use Rattle.radio_seats_rows.specs.declared.seat.Seating.TheVariants.{Finished, Sits}
-use Rattle.radio_seats_rows.specs.Seats.{AreByNumber, advanced, heard_to, is_listener, listener_of, seat_held, seat_in, seat_of, with_ended, with_end, with_place, with_seat, with_session_at, without_listener}
-use Rattle.radio_seats_rows.proofs.EndLaws.{LosesSeat, same_or_loses}
-use Rattle.radio_seats_rows.proofs.GivenLaws.{seat_hearing, seat_of_hearing}
-use Rattle.radio_seats_rows.proofs.Lists.{same_number}
-use Rattle.radio_seats_rows.proofs.SeatLaws.{beside_left, beside_moved, beside_seated, has_sat_down, is_no_listener}
-use Rattle.radio_fallback.specs.declared.moves.Move.{Move}
-use Rattle.radio_fallback.specs.declared.moves.Move.TheVariants.{Ended as HasEnded, To}
-use Rattle.radio_fallback.specs.Carry.{at_his_turn}
-use Rattle.radio_fallback.proofs.FaresLemmas.{found_changed, out_beside, out_himself}
-use Rattle.radio_fallback.proofs.Faring.{Faring, HasGone, HasLost, HasStayed, fares}
-use Rattle.radio_fallback.proofs.FitsLemmas.{sits_last}
-use Rattle.radio_parts_mount.specs.Kept.{kept_fed, longer_kept}
-use Rattle.radio_parts_mount.specs.Sessions.{Session, fed, is_of, opened, session_of, with_session}
-use Rattle.radio_parts_mount.specs.StatePart.{end_in}
-use Rattle.radio_parts_mount.specs.Stream.{data_at}
-use Rattle.radio_parts_mount.specs.Timeouts.{lags_behind}
-use Rattle.radio_parts_mount.proofs.SessionLookups.{beside_begun, beside_ended, beside_fed, found_named, named}
-use Rattle.radio_parts_station.specs.Facts.{sight_of}
-use Rattle.radio_parts_station.specs.Outsiders.{is_shut_out}
-use Rattle.radio_parts_station.specs.StationState.{StationState}
-use Rattle.radio_parts_station.specs.Streams.{shown_for}
-use Rattle.radio_parts_station.specs.World.{World, standing_of}
-use Rattle.radio_parts_station.specs.declared.standing.Standing.TheVariants.{Feeds}
-use Rattle.radio_parts_changes.specs.Changes.{answered, carried_along, changed, laggards_ended, session_killed, session_over}
-use Rattle.radio_parts_changes.specs.KeptChanges.{kept_changed}
-use Rattle.radio_parts_changes.specs.declared.change.Change.TheVariants.{Advance, Begin, End, EndAndLeave, Forget, Obey, Raise, Receive, SetTitle, TakeSeat, Tick}
-use Rattle.radio_parts_changes.proofs.PartChanges.{is_taken_in, on_air_beside}
+use Rattle.radio_seats_rows.specs.declared.seat.Seating.TheVariants.{Sits}
+use Rattle.radio_fallback.specs.declared.moves.Move.TheVariants.{Ended as HasEnded}
+use Rattle.radio_parts_mount.proofs.SessionLookups.{named}
 use Rattle.radio_events.specs.declared.command.Command.{Command as TheCommand}
-use Rattle.radio_events.specs.declared.command.Command.TheVariants.{MoveClients, KillClient, KillSource, SetTitle as NewTitle, SetFallback, AddUser, DeleteUser}
+use Rattle.radio_events.specs.declared.command.Command.TheVariants.{SetTitle as NewTitle}
 use Rattle.radio_events.specs.declared.command.Asked.TheVariants.{Command as Asks}
-use Rattle.radio_events.specs.declared.event.Event.{Event}
-use Rattle.radio_events.specs.Events.{client_in}
-use Rattle.radio_parts.specs.Allowed.{IsCommanded}
-use Rattle.radio_parts.specs.Closing.{Closes, OfClient, OfRelay}
-use Rattle.radio_parts.specs.ControlSteps.{control_after}
-use Rattle.radio_parts.specs.Listen.{first_seat}
-use Rattle.radio_parts.specs.Planned.{planned, uncounted}
-use Rattle.radio_parts.specs.Step.{outcome, world_after}
-use Rattle.radio_parts.specs.Ways.{Way, Misplaced, IsFinished, IsDenied, IsRefused, IsAdmitted, Begins, ComesUp, Receives, SetsTitle, TakesSeat, HandsOut, Ends}
-use Rattle.radio_parts.specs.Ways.{EndsAndLeaves, Leaves, GoesDown, Obeys, Shows, HasPassed, Ticks}
-use Rattle.radio_parts.specs.declared.outcome.Outcome.{Outcome}
-use Rattle.radio_parts.proofs.PlannedLemmas.{planned_so}
-use Rattle.radio_parts.proofs.Ways.{way_of}
-use Rattle.radio_core.specs.Sound.{IsSound}
-use Rattle.radio_core.proofs.Seats.CommandedSeats.{killed_seat}
-use Rattle.radio_laws.specs.Locality.{AgreeWithin, AsksWithin, ComesUpWithin, IsAll, IsLeftAlone, IsWithinReach, LastWithin, LeavesAlone, ReachesWithin, SameSession, SessionsAgree, WalksWithin}
 use Rattle.radio_laws.proofs.Locality.AgreeingLists.{agree_all}
 use Rattle.radio_laws.proofs.Locality.Agreeing.{BothBeyond, IsBeyond, ListenersDo, SameSeat, SeatsAgree, SessionsDo, beyond, listener_same, none_out, numbers_alike, seat_alike}
 use Rattle.radio_laws.proofs.Locality.AgreeingWalks.{MovesWithin, concerned, goes_within, lands_within}

@@ -1,33 +1,15 @@
 -- states before and after a part was lent agree on all mounts but its own
 use Rattle.std.proofs.Common.{◌≡◌, true, ℕ, ◌==◌, Option, Some, List, [], ◌∷◌, not, Ok, refl, ap, sym, subst, ◌∙◌}
-use Rattle.std.specs.Str.{bytes_eq}
+use Rattle.radio_laws.proofs.Words.{bytes_eq, eqb-true, bytes_eq-Decides, found_passes, StationState, World, AllAgree, MountPart, Session, is_of, Lagged, Listener, Seating, Finished, AreByNumber, heard_to, last_mount}
+use Rattle.radio_laws.proofs.Words.{lost_by, Event, CanStep, control_after, control_reply, planned, world_after, Represents, StandsForSome, step_done, AgreeWithin, FedBeyond, LastBeyond, ListenersAgree, SameListener}
+use Rattle.radio_laws.proofs.Words.{SameSession, SessionsAgree}
 use Rattle.std.specs.declared.alloc.AllocError.{AllocError}
-use Rattle.std.proofs.lemmas.Bool.{eqb-true}
-use Rattle.std.proofs.lemmas.Slice.Eq.{bytes_eq-Decides}
-use Rattle.radio_tables.proofs.FindLaws.{found_passes}
 use Rattle.radio_parts_table.specs.Lent.{AsBefore, HeardTo, LaggedOut, IsSeenAfter}
 use Rattle.radio_parts_changes.specs.Lent.{IsLentTo}
-use Rattle.radio_parts_station.specs.StationState.{StationState}
-use Rattle.radio_parts_station.specs.World.{World}
-use Rattle.radio_parts_table.specs.Agree.{AllAgree}
 use Rattle.radio_parts_table.specs.Exchange.{Comes, Stays, first_true, second_true, IsInPlace}
-use Rattle.radio_parts_mount.specs.declared.part.MountPart.{MountPart}
-use Rattle.radio_parts_mount.specs.Sessions.{Session, is_of}
-use Rattle.radio_policy.specs.declared.rule.Rule.TheVariants.{Lagged}
-use Rattle.radio_seats_rows.specs.declared.seat.Listener.{Listener}
-use Rattle.radio_seats_rows.specs.declared.seat.Seating.{Seating}
-use Rattle.radio_seats_rows.specs.declared.seat.Seating.TheVariants.{Sits, Finished}
-use Rattle.radio_seats_rows.specs.Seats.{AreByNumber, heard_to, last_mount, lost_by}
-use Rattle.radio_events.specs.declared.event.Event.{Event}
-use Rattle.radio_parts.specs.CanStep.{CanStep}
-use Rattle.radio_parts.specs.ControlSteps.{control_after, control_reply}
-use Rattle.radio_parts.specs.Planned.{planned}
-use Rattle.radio_parts.specs.Step.{world_after}
-use Rattle.radio_core.specs.Represents.{Represents, StandsForSome}
+use Rattle.radio_seats_rows.specs.declared.seat.Seating.TheVariants.{Sits}
 use Rattle.radio_core.proofs.Kept.CanSteps.{stands_can}
-use Rattle.radio_core.proofs.Kept.StepLemmas.{step_done}
 use Rattle.radio_laws.specs.LentParts.{all_but}
-use Rattle.radio_laws.specs.Locality.{AgreeWithin, FedBeyond, LastBeyond, ListenersAgree, SameListener, SameSession, SessionsAgree}
 
 module _ (mount : List ℕ) where
   session_agrees : (its : Option Session) → ((b : Session) → its ≡ Some b → bytes_eq b.mount mount ≡ true) → (a b : Session) → IsInPlace its a b

@@ -1,60 +1,22 @@
 -- what an event does depends on the mounts that it can reach
 use Rattle.std.proofs.Common.{◌≡◌, Bool, true, false, ℕ, Option, Some, None, List, refl, ap, sym, subst, ◌∙◌}
-use Rattle.std.specs.Prelude.{◌+◌, length}
-use Rattle.std.proofs.lemmas.Slice.Eq.{bytes_eq-Decides}
-use Rattle.radio_tables.proofs.FindLaws.{found_passes}
-use Rattle.radio_values.specs.declared.field.Shown.{Shown}
-use Rattle.radio_settings_values.specs.Options.{options_for}
-use Rattle.radio_policy.specs.declared.rule.Rule.TheVariants.{Lagged, Killed}
-use Rattle.radio_seats_rows.specs.declared.seat.Listener.{Listener}
-use Rattle.radio_seats_rows.specs.declared.seat.Seat.{Seat}
-use Rattle.radio_parts_mount.specs.Sessions.{Session, is_of, session_of, opened, with_session, fed, titled}
-use Rattle.radio_parts_mount.specs.Timeouts.{lags_behind}
-use Rattle.radio_fallback.specs.declared.moves.Move.TheVariants.{Ended as HasEnded, To}
+use Rattle.radio_laws.proofs.Words.{◌+◌, length, bytes_eq-Decides, found_passes, Shown, options_for, Lagged, Killed, Listener, Seat, Session, is_of, session_of, opened, with_session, fed, titled, lags_behind, To}
+use Rattle.radio_laws.proofs.Words.{MoveClients, KillClient, KillSource, SetFallback, AddUser, DeleteUser, Event, Command, Draw, Change, Nothing, Begin, Raise, Receive, End, EndAndLeave, Tick, Obey, Outcome, Feeds}
+use Rattle.radio_laws.proofs.Words.{changed, session_over, session_ended, session_killed, answered, laggards_ended, block_received, on_air, is_taken_in, is_on_air, received, retitled, kept_taken_in, kept_changed}
+use Rattle.radio_laws.proofs.Words.{kept_fed, MayDraw, CanStep, control_after, planned, uncounted, planned_so, sits_last, Closes, OfClient, OfRelay, IsCommanded, end_in, first_seat, shown_for, data_at, StationState}
+use Rattle.radio_laws.proofs.Words.{outcome, reply_to, world_after, Way, Misplaced, IsFinished, IsDenied, IsRefused, IsAdmitted, Begins, ComesUp, Receives, SetsTitle, TakesSeat, HandsOut, Ends, EndsAndLeaves, Leaves}
+use Rattle.radio_laws.proofs.Words.{GoesDown, Obeys, Shows, HasPassed, Ticks, World, standing_of, killed_seat, way_of, AgreeWithin, SessionsAgree, SameSession, ListenersAgree, SameListener, IsAll, IsWithinReach}
+use Rattle.radio_laws.proofs.Words.{LastWithin, ReachesWithin, AsksWithin, ComesUpWithin, WalksWithin, AnswersAlike, Lists, with_user_at, without_user_at, ListenerPassword, seat_in, seat_of, with_ended, with_session_at}
+use Rattle.radio_laws.proofs.Words.{is_shut_out}
+use Rattle.radio_fallback.specs.declared.moves.Move.TheVariants.{Ended as HasEnded}
 use Rattle.radio_events.specs.declared.command.Asked.TheVariants.{Command as Asks}
 use Rattle.radio_events.specs.declared.command.Command.{Command as TheCommand}
-use Rattle.radio_events.specs.declared.command.Command.TheVariants.{MoveClients, KillClient, KillSource, SetTitle as NewTitle, SetFallback, AddUser, DeleteUser}
-use Rattle.radio_events.specs.declared.event.Event.{Event}
-use Rattle.radio_events.specs.declared.event.Event.TheVariants.{Command, Draw}
-use Rattle.radio_parts_changes.specs.declared.change.Change.{Change}
-use Rattle.radio_parts_changes.specs.declared.change.Change.TheVariants.{Nothing, Begin, Raise, Receive, End}
-use Rattle.radio_parts_changes.specs.declared.change.Change.TheVariants.{EndAndLeave, Tick, Obey}
-use Rattle.radio_parts.specs.declared.outcome.Outcome.{Outcome}
-use Rattle.radio_parts_station.specs.declared.standing.Standing.TheVariants.{Feeds}
-use Rattle.radio_parts_changes.specs.Changes.{changed, session_over, session_ended, session_killed, answered, laggards_ended, block_received, on_air}
-use Rattle.radio_parts_changes.proofs.PartChanges.{is_taken_in, is_on_air}
-use Rattle.radio_parts_station.specs.StationChanges.{received, retitled}
-use Rattle.radio_parts_changes.specs.KeptChanges.{kept_taken_in, kept_changed}
-use Rattle.radio_parts_mount.specs.Kept.{kept_fed}
-use Rattle.radio_parts.specs.CanStep.{MayDraw, CanStep}
-use Rattle.radio_parts.specs.ControlSteps.{control_after}
-use Rattle.radio_parts.specs.Planned.{planned, uncounted}
-use Rattle.radio_parts.proofs.PlannedLemmas.{planned_so}
-use Rattle.radio_fallback.proofs.FitsLemmas.{sits_last}
-use Rattle.radio_parts.specs.Closing.{Closes, OfClient, OfRelay}
-use Rattle.radio_parts.specs.Allowed.{IsCommanded}
-use Rattle.radio_parts_mount.specs.StatePart.{end_in}
-use Rattle.radio_parts.specs.Listen.{first_seat}
-use Rattle.radio_parts_station.specs.Streams.{shown_for}
-use Rattle.radio_parts_mount.specs.Stream.{data_at}
-use Rattle.radio_parts_station.specs.StationState.{StationState}
-use Rattle.radio_parts.specs.Step.{outcome, reply_to, world_after}
-use Rattle.radio_parts.specs.Ways.{Way, Misplaced, IsFinished, IsDenied, IsRefused, IsAdmitted, Begins, ComesUp, Receives, SetsTitle, TakesSeat, HandsOut, Ends}
-use Rattle.radio_parts.specs.Ways.{EndsAndLeaves, Leaves, GoesDown, Obeys, Shows, HasPassed, Ticks}
-use Rattle.radio_parts_station.specs.World.{World, standing_of}
-use Rattle.radio_core.proofs.Seats.CommandedSeats.{killed_seat}
-use Rattle.radio_parts.proofs.Ways.{way_of}
-use Rattle.radio_laws.specs.Locality.{AgreeWithin, SessionsAgree, SameSession, ListenersAgree, SameListener, IsAll, IsWithinReach, LastWithin, ReachesWithin, AsksWithin, ComesUpWithin, WalksWithin}
-use Rattle.radio_laws.specs.Locality.{AnswersAlike}
+use Rattle.radio_events.specs.declared.command.Command.TheVariants.{SetTitle as NewTitle}
 use Rattle.radio_laws.proofs.Locality.AgreeingLists.{agree_all}
 use Rattle.radio_laws.proofs.Locality.Agreeing.{beyond, SessionsDo, session_alike, with_session_alike, without_session_alike, fed_alike, titled_alike, ListenersDo}
 use Rattle.radio_laws.proofs.Locality.Agreeing.{with_seat_alike, without_alike, with_place_alike, with_end_alike, with_ended_alike, given_alike, listener_same, kept_fed_alike}
 use Rattle.radio_laws.proofs.Locality.AgreeingWalks.{carried_alike}
 use Rattle.radio_laws.proofs.Locality.AgreeingOutcomes.{in_place, onward_by, all_one, standing_alike, outcome_alike}
-use Rattle.radio_access.specs.Lists.{Lists, with_user_at, without_user_at}
-use Rattle.radio_policy.specs.declared.rule.Rule.TheVariants.{ListenerPassword}
-use Rattle.radio_seats_rows.specs.Seats.{seat_in, seat_of, with_ended, with_session_at}
-use Rattle.radio_parts_station.specs.Outsiders.{is_shut_out}
 use Rattle.radio_laws.proofs.Locality.Agreeing.{none_out}
 
 -- a state agrees with itself

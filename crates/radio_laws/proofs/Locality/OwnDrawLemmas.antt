@@ -1,47 +1,10 @@
 -- a draw by the part of its mount is the server's
 use Rattle.std.proofs.Common.{◌≡◌, ◌≤◌, ◌+◌, Bool, true, false, ℕ, ◌==◌, Option, Some, None, List, [], length, refl, ap, sym, subst, ◌∙◌, zero, suc}
-use Rattle.std.specs.Prelude.{find, take, drop, if◌then◌else◌}
-use Rattle.std.specs.Option.{option_map, option_map_or, option_or}
-use Rattle.std.proofs.lemmas.Bool.{eqb-true}
-use Rattle.std.proofs.lemmas.Slice.Eq.{bytes_eq-Decides}
-use Rattle.radio_tables.specs.Lists.{update_first}
-use Rattle.radio_tables.proofs.FindLaws.{find_same, find_apart, found_has}
-use Rattle.radio_attachments.specs.declared.attachment.Attachment.{Attachment}
-use Rattle.radio_attachments.specs.Rows.{is_attached, AreInOrder}
-use Rattle.radio_attachments.proofs.Forks.{in_order_updated}
-use Rattle.radio_seats_rows.specs.declared.seat.Listener.{Listener}
-use Rattle.radio_seats_rows.specs.declared.seat.Seat.{Seat}
-use Rattle.radio_seats_rows.specs.Seats.{seat_in, seat_of, with_place}
-use Rattle.radio_seats_rows.proofs.SeatLaws.{beside_moved, has_heard}
-use Rattle.radio_settings_values.specs.declared.settings.Settings.{Settings}
-use Rattle.radio_parts_mount.specs.Kept.{first_start, kept_from, kept_session, kept_stream}
-use Rattle.radio_parts_mount.specs.StatePart.{Part}
-use Rattle.radio_parts_mount.specs.Sessions.{Session, is_of, session_of, HasRisingStarts}
-use Rattle.radio_parts_mount.specs.Stream.{no_data, data_at}
-use Rattle.radio_parts_mount.proofs.KeptStreams.{kept_data, kept_end}
-use Rattle.radio_parts_mount.specs.Attached.{place_in}
-use Rattle.radio_parts_mount.specs.Steps.{IsKept, portion_at, place_after, heard_on, part_after}
-use Rattle.radio_parts_mount.specs.declared.drawing.Portion.{Portion}
-use Rattle.radio_parts_mount.specs.declared.part.MountPart.{MountPart}
-use Rattle.radio_parts_mount.specs.declared.step.PartAnswer.TheVariants.{Replied}
-use Rattle.radio_events.specs.declared.event.Event.{Event}
-use Rattle.radio_events.specs.declared.event.Event.TheVariants.{Draw}
-use Rattle.radio_events.specs.declared.reply.Reply.{Reply}
-use Rattle.radio_events.specs.declared.reply.Reply.TheVariants.{Drawn, Stray}
-use Rattle.radio_parts_station.specs.Waiting.{heard_at, silence_at, silence_of}
-use Rattle.radio_parts_station.specs.World.{World}
-use Rattle.radio_parts_changes.specs.declared.change.Change.TheVariants.{Nothing, Advance}
-use Rattle.radio_parts_changes.specs.Changes.{part_at}
-use Rattle.radio_parts.specs.declared.outcome.Outcome.{Outcome}
-use Rattle.radio_parts.specs.Draw.{hands_out}
-use Rattle.radio_parts.specs.Outcomes.{says}
-use Rattle.radio_core.specs.Sound.{IsSound}
-use Rattle.radio_core.specs.StandsFor.{StandsFor}
-use Rattle.radio_parts.specs.Step.{outcome, reply_to, world_after}
-use Rattle.radio_parts.proofs.HeardLemmas.{heard_cases}
-use Rattle.radio_core.proofs.Kept.KeptSeats.{settings_stay}
-use Rattle.radio_laws.specs.OwnSteps.{PartStands, IsServersStep}
-use Rattle.radio_laws.specs.Parts.{seat_if, is_at, seat_at, IsPartOf, part_with_place}
+use Rattle.radio_laws.proofs.Words.{find, take, drop, if◌then◌else◌, option_map, option_map_or, option_or, eqb-true, bytes_eq-Decides, update_first, find_same, find_apart, found_has, Attachment, is_attached, AreInOrder}
+use Rattle.radio_laws.proofs.Words.{in_order_updated, Listener, Seat, seat_in, seat_of, with_place, beside_moved, has_heard, Settings, first_start, kept_from, kept_session, kept_stream, Part, Session, is_of, session_of}
+use Rattle.radio_laws.proofs.Words.{HasRisingStarts, no_data, data_at, kept_data, kept_end, place_in, IsKept, portion_at, place_after, heard_on, part_after, Portion, MountPart, Replied, Event, Draw, Reply, Drawn, Stray}
+use Rattle.radio_laws.proofs.Words.{heard_at, silence_at, silence_of, World, Nothing, Advance, part_at, Outcome, hands_out, says, IsSound, StandsFor, outcome, reply_to, world_after, heard_cases, settings_stay}
+use Rattle.radio_laws.proofs.Words.{PartStands, IsServersStep, seat_if, is_at, seat_at, IsPartOf, part_with_place}
 use Rattle.radio_laws.proofs.Locality.PartLemmas.{sits_there, parts_draw}
 
 -- if nothing was delivered at a mount, nothing is drawn there

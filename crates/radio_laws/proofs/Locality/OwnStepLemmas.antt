@@ -1,54 +1,15 @@
 -- a part's own step is the server's
 use Rattle.std.proofs.Common.{◌≡◌, ◌+◌, Bool, true, false, ℕ, ◌==◌, Option, Some, None, List, length, refl, ap, sym, subst, ◌∙◌, arith, length-append}
-use Rattle.std.specs.Prelude.{find, filter, not, ◌&&◌, nat_lt, if◌then◌else◌}
-use Rattle.std.specs.Option.{option_map, option_map_or}
-use Rattle.std.specs.Str.{bytes_eq}
-use Rattle.std.proofs.lemmas.Bool.{eqb-true}
-use Rattle.radio_tables.proofs.FindLaws.{found_has}
-use Rattle.radio_attachments.specs.declared.attachment.Attachment.{Attachment}
-use Rattle.radio_attachments.specs.Rows.{is_attached, lags}
-use Rattle.radio_attachments.proofs.Forks.{in_order_filtered}
-use Rattle.radio_policy.specs.declared.judgement.Verdict.{Verdict}
-use Rattle.radio_policy.specs.declared.judgement.Verdict.TheVariants.{Allow, Deny as Denied}
-use Rattle.radio_policy.specs.declared.rule.Rule.TheVariants.{NumbersSpent, Lagged}
-use Rattle.radio_policy.specs.Verdicts.{verdict_in}
-use Rattle.radio_seats_rows.specs.declared.seat.Seat.{Seat}
-use Rattle.radio_seats_rows.specs.Seats.{with_ended}
-use Rattle.radio_seats_rows.proofs.Lists.{same_number}
-use Rattle.radio_parts_mount.specs.Kept.{kept_session, longer_kept}
-use Rattle.radio_parts_mount.specs.StatePart.{Part, end_in, part_received, part_titled}
-use Rattle.radio_parts_mount.specs.Sessions.{Session, is_of, session_of, longer, with_title, HasRisingStarts}
-use Rattle.radio_parts_mount.specs.Stream.{WholeStream, end_of}
-use Rattle.radio_parts_mount.specs.Timeouts.{lags_behind}
-use Rattle.radio_parts_mount.proofs.KeptStreams.{kept_end, kept_more}
-use Rattle.radio_parts_mount.proofs.RisingLemmas.{rising_more}
-use Rattle.radio_parts_mount.specs.Attached.{place_in}
+use Rattle.radio_laws.proofs.Words.{find, filter, not, ◌&&◌, nat_lt, if◌then◌else◌, option_map, option_map_or, bytes_eq, eqb-true, found_has, Attachment, is_attached, lags, in_order_filtered, Verdict, Allow}
+use Rattle.radio_laws.proofs.Words.{NumbersSpent, Lagged, verdict_in, Seat, with_ended, same_number, kept_session, longer_kept, Part, end_in, part_received, part_titled, Session, is_of, session_of, longer, with_title}
+use Rattle.radio_laws.proofs.Words.{HasRisingStarts, WholeStream, end_of, lags_behind, kept_end, kept_more, rising_more, place_in, portion_at, is_fed_by, is_spent_with, part_answers, part_fed, part_lagged, Portion}
+use Rattle.radio_laws.proofs.Words.{MountPart, Replied, Elsewhere, Event, Arrive, Source, Push, SourceEnd, Title, Listen, Draw, Command, Leave, RelayUp, RelayDown, Clock, Reply, Drawn, Noted, Deny, largest_number}
+use Rattle.radio_laws.proofs.Words.{rows_to_push, World, standing_of, Feeds, Nothing, changed, part_at, Outcome, on_verdict, takes_in, IsSound, StandsFor, outcome, reply_to, world_after, Represents, IsLeftAlone}
+use Rattle.radio_laws.proofs.Words.{PartStands, IsServersStep, OwnStepsAreTheServers, IsOwn, OwnStepsAreAnswered, seat_if, seat_at, IsPartOf, IsPartsStep}
+use Rattle.radio_policy.specs.declared.judgement.Verdict.TheVariants.{Deny as Denied}
 use Rattle.radio_parts_mount.specs.Parts.{with_session_changed}
-use Rattle.radio_parts_mount.specs.Steps.{portion_at, is_fed_by, is_spent_with, part_answers, part_fed, part_lagged}
-use Rattle.radio_parts_mount.specs.declared.drawing.Portion.{Portion}
-use Rattle.radio_parts_mount.specs.declared.part.MountPart.{MountPart}
 use Rattle.radio_parts_mount.specs.declared.step.PartAnswer.{PartAnswer}
-use Rattle.radio_parts_mount.specs.declared.step.PartAnswer.TheVariants.{Replied, Elsewhere}
 use Rattle.radio_parts_table.proofs.LaggingLemmas.{far, among_is, rest_is}
-use Rattle.radio_events.specs.declared.event.Event.{Event}
-use Rattle.radio_events.specs.declared.event.Event.TheVariants.{Arrive, Source, Push, SourceEnd, Title, Listen, Draw, Command, Leave, RelayUp, RelayDown, Clock}
-use Rattle.radio_events.specs.declared.reply.Reply.{Reply}
-use Rattle.radio_events.specs.declared.reply.Reply.TheVariants.{Drawn, Noted, Deny}
-use Rattle.radio_parts_station.specs.Facts.{largest_number, rows_to_push}
-use Rattle.radio_parts_station.specs.World.{World, standing_of}
-use Rattle.radio_parts_station.specs.declared.standing.Standing.TheVariants.{Feeds}
-use Rattle.radio_parts_changes.specs.declared.change.Change.TheVariants.{Nothing}
-use Rattle.radio_parts_changes.specs.Changes.{changed, part_at}
-use Rattle.radio_parts.specs.declared.outcome.Outcome.{Outcome}
-use Rattle.radio_parts.specs.Outcomes.{on_verdict}
-use Rattle.radio_parts.specs.Push.{takes_in}
-use Rattle.radio_core.specs.Sound.{IsSound}
-use Rattle.radio_core.specs.StandsFor.{StandsFor}
-use Rattle.radio_parts.specs.Step.{outcome, reply_to, world_after}
-use Rattle.radio_core.specs.Represents.{Represents}
-use Rattle.radio_laws.specs.Locality.{IsLeftAlone}
-use Rattle.radio_laws.specs.OwnSteps.{PartStands, IsServersStep, OwnStepsAreTheServers, IsOwn, OwnStepsAreAnswered}
-use Rattle.radio_laws.specs.Parts.{seat_if, seat_at, IsPartOf, IsPartsStep}
 use Rattle.radio_laws.proofs.Locality.PartLemmas.{sits_there, those_kept, judged, noted_title, parts_receive, parts_titled}
 use Rattle.radio_laws.proofs.Locality.OwnDrawLemmas.{of_whole as its_whole, has_then, draws_as_the_server}
 

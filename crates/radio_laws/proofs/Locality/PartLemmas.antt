@@ -1,42 +1,14 @@
 -- a part's step is the state's
 use Rattle.std.proofs.Common.{◌≡◌, Bool, true, false, ℕ, ◌==◌, Option, Some, None, List, refl, ap, sym, subst, ◌∙◌}
-use Rattle.std.specs.Prelude.{if◌then◌else◌, not}
-use Rattle.std.specs.Option.{option_map, option_map_or, option_or}
-use Rattle.std.proofs.lemmas.Bool.{eqb-true}
-use Rattle.std.proofs.lemmas.Slice.Eq.{bytes_eq-Decides}
-use Rattle.radio_policy.specs.declared.rule.Rule.TheVariants.{Lagged}
-use Rattle.radio_policy.specs.declared.judgement.Verdict.{Verdict}
-use Rattle.radio_policy.specs.declared.judgement.Verdict.TheVariants.{Allow, Deny as Denied}
-use Rattle.radio_policy.specs.Verdicts.{verdict_in}
-use Rattle.radio_seats_rows.specs.declared.seat.Listener.{Listener}
-use Rattle.radio_seats_rows.specs.declared.seat.Seat.{Seat}
-use Rattle.radio_seats_rows.specs.declared.seat.Seating.{Seating}
-use Rattle.radio_seats_rows.specs.declared.seat.Seating.TheVariants.{Sits as HasSeat, Finished}
-use Rattle.radio_seats_rows.specs.Seats.{seat_in, seat_held, seat_of, listener_of, with_place, with_ended, finished_if, ended_if, lost_by}
-use Rattle.radio_seats_rows.proofs.SeatLaws.{beside_moved, has_heard}
-use Rattle.radio_seats_rows.proofs.EndLaws.{have_ended}
-use Rattle.radio_parts_mount.specs.StatePart.{Part, end_in, part_received, part_titled}
-use Rattle.radio_parts_mount.specs.Sessions.{Session, session_of, longer, with_title}
-use Rattle.radio_parts_mount.specs.Timeouts.{lags_behind}
+use Rattle.radio_laws.proofs.Words.{if◌then◌else◌, not, option_map, option_map_or, option_or, eqb-true, bytes_eq-Decides, Lagged, Verdict, Allow, verdict_in, Listener, Seat, Seating, Finished, seat_in, seat_held}
+use Rattle.radio_laws.proofs.Words.{seat_of, listener_of, with_place, with_ended, finished_if, ended_if, lost_by, beside_moved, has_heard, have_ended, Part, end_in, part_received, part_titled, Session, session_of}
+use Rattle.radio_laws.proofs.Words.{longer, with_title, lags_behind, Push, Title, Draw, Noted, Stray, Standing, Feeds, rows_to_push, heard_at, silence_of, World, standing_of, Nothing, Receive, SetTitle, Advance, changed}
+use Rattle.radio_laws.proofs.Words.{is_taken_in, is_on_air, Outcome, hands_out, as_heard, part_draws, says, if_sitting, if_feeding, on_verdict, takes_in, IsSound, outcome, reply_to, world_after, hands_out_at, draws_so}
+use Rattle.radio_laws.proofs.Words.{seat_if, is_at, seat_at, IsPartOf, part_with_place, is_mount_of, IsPartsStep, DrawsByItsPart}
+use Rattle.radio_policy.specs.declared.judgement.Verdict.TheVariants.{Deny as Denied}
+use Rattle.radio_seats_rows.specs.declared.seat.Seating.TheVariants.{Sits as HasSeat}
 use Rattle.radio_parts_mount.proofs.PartLemmas.{found_changed}
-use Rattle.radio_events.specs.declared.event.Event.TheVariants.{Push, Title, Draw}
-use Rattle.radio_events.specs.declared.reply.Reply.TheVariants.{Noted, Stray}
-use Rattle.radio_parts_station.specs.declared.standing.Standing.{Standing}
-use Rattle.radio_parts_station.specs.declared.standing.Standing.TheVariants.{Feeds, Sits as IsSitting}
-use Rattle.radio_parts_station.specs.Facts.{rows_to_push}
-use Rattle.radio_parts_station.specs.Waiting.{heard_at, silence_of}
-use Rattle.radio_parts_station.specs.World.{World, standing_of}
-use Rattle.radio_parts_changes.specs.declared.change.Change.TheVariants.{Nothing, Receive, SetTitle, Advance}
-use Rattle.radio_parts_changes.specs.Changes.{changed}
-use Rattle.radio_parts_changes.proofs.PartChanges.{is_taken_in, is_on_air}
-use Rattle.radio_parts.specs.declared.outcome.Outcome.{Outcome}
-use Rattle.radio_parts.specs.Draw.{hands_out, as_heard, part_draws}
-use Rattle.radio_parts.specs.Outcomes.{says, if_sitting, if_feeding, on_verdict}
-use Rattle.radio_parts.specs.Push.{takes_in}
-use Rattle.radio_core.specs.Sound.{IsSound}
-use Rattle.radio_parts.specs.Step.{outcome, reply_to, world_after}
-use Rattle.radio_parts.proofs.DrawLemmas.{hands_out_at, draws_so}
-use Rattle.radio_laws.specs.Parts.{seat_if, is_at, seat_at, IsPartOf, part_with_place, is_mount_of, IsPartsStep, DrawsByItsPart}
+use Rattle.radio_parts_station.specs.declared.standing.Standing.TheVariants.{Sits as IsSitting}
 use Rattle.radio_laws.proofs.Locality.LeftAlone.{left_alone}
 
 -- the listeners that keep their seats, when those lose theirs of which p holds

@@ -1,33 +1,12 @@
 -- the laws of access and of admission
 use Rattle.std.proofs.Common.{◌≡◌, inl, inr, Bool, true, false, ℕ, ◌-◌, ◌<◌, ◌≤◌, ◌==◌, Option, Some, None, List, [], ◌∷◌, refl, ap, sym, subst, ◌∙◌, arith}
-use Rattle.std.specs.Prelude.{find, nat_le, unwrap_or, min}
-use Rattle.std.proofs.lemmas.Bool.Decides.{nat_tests}
+use Rattle.radio_laws.proofs.Words.{find, nat_le, unwrap_or, min, nat_tests, Each, Has, find_here, find_later, Event, Outcome, Drawn, Seated, World, changed, StationState, options_for, first_seat, burst_of, interval_for}
+use Rattle.radio_laws.proofs.Words.{seat_of, seat_in, Session, AreRising, WholeStream, end_of, burst_start, IsSound, outcome, reply_to, world_after, has_sat_down, and_parts, lets_in, lands_where_he_fits, sight_of}
+use Rattle.radio_laws.proofs.Words.{burst_within}
 use Rattle.radio_events.specs.declared.reply.StreamHead.{StreamHead}
-use Rattle.radio_tables.specs.Lists.{Each, Has}
-use Rattle.radio_tables.proofs.FindLaws.{find_here, find_later}
-use Rattle.radio_events.specs.declared.event.Event.{Event}
-use Rattle.radio_parts.specs.declared.outcome.Outcome.{Outcome}
-use Rattle.radio_events.specs.declared.reply.Reply.TheVariants.{Drawn, Seated}
-use Rattle.radio_parts_station.specs.World.{World}
 use Rattle.radio_laws.specs.Access.{IsHis, AccessIsKept}
 use Rattle.radio_laws.specs.Admission.{IsBlockStart, IsEarliestStart, IsSeated, BeginsAtABlock}
-use Rattle.radio_parts_changes.specs.Changes.{changed}
-use Rattle.radio_parts_station.specs.StationState.{StationState}
-use Rattle.radio_settings_values.specs.Options.{options_for}
-use Rattle.radio_parts.specs.Listen.{first_seat}
-use Rattle.radio_parts_facts.specs.Streams.{burst_of, interval_for}
-use Rattle.radio_seats_rows.specs.Seats.{seat_of, seat_in}
-use Rattle.radio_parts_mount.specs.Sessions.{Session}
-use Rattle.radio_parts_mount.specs.Stream.{AreRising, WholeStream, end_of, burst_start}
-use Rattle.radio_core.specs.Sound.{IsSound}
-use Rattle.radio_parts.specs.Step.{outcome, reply_to, world_after}
-use Rattle.radio_seats_rows.proofs.SeatLaws.{has_sat_down}
-use Rattle.std.proofs.lemmas.Bool.{and_parts}
-use Rattle.radio_access.specs.Lists.{lets_in}
-use Rattle.radio_fallback.proofs.TurnLemmas.{lands_where_he_fits}
-use Rattle.radio_parts_station.specs.Facts.{sight_of}
 use Rattle.radio_laws.proofs.Seats.WalkLemmas.{lands_on_his_way}
-use Rattle.radio_parts_mount.proofs.RisingLemmas.{burst_within}
 use Rattle.radio_laws.proofs.Seats.LimitLemmas.{Within, sits_as, sent_as}
 use Rattle.radio_laws.proofs.Seats.ListsLemmas.{KeepsLists}
 use Rattle.radio_laws.proofs.Denials.GrantedLemmas.{Granted, AdmitsClient, AdmitsSource, AdmitsRelay, AdmitsListener, HandsData, TellsText, GrantsNothing, grants, granted}

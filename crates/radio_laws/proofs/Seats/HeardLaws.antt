@@ -1,18 +1,7 @@
 -- the session that listeners of a mount draw, whether the mount is live or waits, and which listeners draw it
 use Rattle.std.proofs.Common.{◌≡◌, true, false, Bool, Option, Some, None, is_some, refl, List, ℕ, ap, subst, ◌∙◌}
-use Rattle.std.specs.Prelude.{if◌then◌else◌}
-use Rattle.std.specs.Option.{option_or}
-use Rattle.radio_parts_station.specs.StationState.{StationState}
-use Rattle.radio_parts_station.specs.Waiting.{heard_at, is_on_demand, silence_at, silence_of}
-use Rattle.radio_parts_station.specs.World.{World}
-use Rattle.radio_parts_mount.proofs.NumberOrder.{same_order}
-use Rattle.radio_parts_mount.specs.Sessions.{Session, session_of}
-use Rattle.radio_parts_mount.specs.Stream.{AreRising, end_of}
-use Rattle.radio_seats_rows.specs.declared.seat.Listener.{Listener}
-use Rattle.radio_seats_rows.specs.Seats.{AreByNumber, with_session_at}
-use Rattle.radio_seats_rows.proofs.GivenLaws.{numbers_hearing}
-use Rattle.radio_core.specs.Sound.{IsSound}
-use Rattle.radio_parts.proofs.HeardLemmas.{heard_cases}
+use Rattle.radio_laws.proofs.Words.{if◌then◌else◌, option_or, StationState, heard_at, is_on_demand, silence_at, silence_of, World, same_order, Session, session_of, AreRising, end_of, Listener, AreByNumber}
+use Rattle.radio_laws.proofs.Words.{with_session_at, numbers_hearing, IsSound, heard_cases}
 
 -- its blocks start in order, and none behind the end
 pub rising_heard : (w : World) → IsSound w → (mount : List ℕ) (session : Session) → heard_at w.station mount ≡ Some session

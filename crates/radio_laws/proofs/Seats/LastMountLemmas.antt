@@ -1,39 +1,12 @@
 -- the last mount of a listener
 use Rattle.std.proofs.Common.{◌++◌, ◌≡◌, Bool, true, false, ℕ, ◌==◌, Option, Some, None, List, [], ◌∷◌, refl, ap, sym, subst, ◌∙◌}
-use Rattle.std.specs.Prelude.{if◌then◌else◌, fold, nat_lt}
-use Rattle.std.specs.Option.{option_map}
+use Rattle.radio_laws.proofs.Words.{if◌then◌else◌, fold, nat_lt, option_map, TimeOver, options_for, by_number, Listener, Seat, Seating, listener_of, seat_held, seat_in, seat_of, last_mount, last_mount_of}
+use Rattle.radio_laws.proofs.Words.{with_session_at, without_listener, AreByNumber, had_seat, kept_seat, beside_left, beside_seated, listener_seated, Move, Ended, Up, Session, order_ended, has_sat_out, StationState}
+use Rattle.radio_laws.proofs.Words.{sight_of, Undecided, Sits, World, world, standing_of, Peer, Event, Clock, Nothing, Tick, changed, carried_along, session_over, session_ended, called_home, before_silence, silent_in}
+use Rattle.radio_laws.proofs.Words.{session_silenced, ticked, first_seat, Brings, ByItsEnd, ByItsLeaving, BySilence, ByComingUp, ByRelayUp, ByKilling, ByMoving, IsSound, outcome, world_after, order_carried, sound_after}
+use Rattle.radio_laws.proofs.Words.{Leaving}
 use Rattle.std.proofs.lemmas.List.Sums.{fold-append}
-use Rattle.radio_policy.specs.declared.rule.Rule.TheVariants.{TimeOver}
-use Rattle.radio_settings_values.specs.Options.{options_for}
-use Rattle.radio_tables.proofs.KeyLaws.{by_number}
-use Rattle.radio_seats_rows.specs.declared.seat.Listener.{Listener}
-use Rattle.radio_seats_rows.specs.declared.seat.Seat.{Seat}
-use Rattle.radio_seats_rows.specs.declared.seat.Seating.{Seating}
 use Rattle.radio_seats_rows.specs.declared.seat.Seating.TheVariants.{Sits as HasSeat, Finished as HasLostIt}
-use Rattle.radio_seats_rows.specs.Seats.{listener_of, seat_held, seat_in, seat_of, last_mount, last_mount_of, with_session_at, without_listener, AreByNumber}
-use Rattle.radio_seats_rows.proofs.EndLaws.{had_seat, kept_seat}
-use Rattle.radio_seats_rows.proofs.SeatLaws.{beside_left, beside_seated, listener_seated}
-use Rattle.radio_fallback.specs.declared.moves.Move.{Move}
-use Rattle.radio_fallback.specs.declared.moves.Move.TheVariants.{Ended, Up}
-use Rattle.radio_parts_mount.specs.Sessions.{Session}
-use Rattle.radio_parts_mount.proofs.NumberOrder.{order_ended}
-use Rattle.radio_parts_mount.specs.Timeouts.{has_sat_out}
-use Rattle.radio_parts_station.specs.StationState.{StationState}
-use Rattle.radio_parts_station.specs.Facts.{sight_of}
-use Rattle.radio_parts_station.specs.declared.standing.Standing.TheVariants.{Undecided, Sits}
-use Rattle.radio_parts_station.specs.World.{World, world, standing_of}
-use Rattle.radio_addr.specs.declared.peer.Peer.{Peer}
-use Rattle.radio_events.specs.declared.event.Event.{Event}
-use Rattle.radio_events.specs.declared.event.Event.TheVariants.{Clock}
-use Rattle.radio_parts_changes.specs.declared.change.Change.TheVariants.{Nothing, Tick}
-use Rattle.radio_parts_changes.specs.Changes.{changed, carried_along, session_over, session_ended, called_home, before_silence, silent_in, session_silenced, ticked}
-use Rattle.radio_parts.specs.Listen.{first_seat}
-use Rattle.radio_core.specs.Moves.{Brings, ByItsEnd, ByItsLeaving, BySilence, ByComingUp, ByRelayUp, ByKilling, ByMoving}
-use Rattle.radio_core.specs.Sound.{IsSound}
-use Rattle.radio_parts.specs.Step.{outcome, world_after}
-use Rattle.radio_core.proofs.Clients.CarriedFates.{order_carried}
-use Rattle.radio_core.proofs.Sound.SoundRuns.{sound_after}
-use Rattle.radio_laws.specs.Gone.{Leaving}
 use Rattle.radio_laws.proofs.Ends.GoneLemmas.{given_number, left_at_once}
 use Rattle.radio_laws.proofs.Seats.HeardLaws.{order_given}
 use Rattle.radio_laws.proofs.Seats.WalkingOnLemmas.{order_silenced, closes_no_clock}

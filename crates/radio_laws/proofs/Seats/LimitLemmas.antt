@@ -1,54 +1,15 @@
 -- In every state of a run, no more sit at a mount than may. No user sits twice at a mount that allows each user once.
 use Rattle.std.proofs.Common.{◌≡◌, Bool, true, false, ℕ, ◌<◌, ◌≤◌, ◌==◌, ◌&&◌, not, Option, Some, None, List, [], ◌∷◌, length, refl, ap}
 use Rattle.std.proofs.Common.{sym, subst, ◌∙◌, arith}
-use Rattle.std.proofs.lemmas.Bool.Decides.{nat_tests}
-use Rattle.std.proofs.lemmas.Slice.Eq.{bytes_eq-Decides}
-use Rattle.radio_creds.specs.Credentials.{Credentials}
-use Rattle.radio_addr.specs.declared.peer.Peer.{Peer}
-use Rattle.radio_settings_values.specs.declared.settings.Settings.{Settings}
-use Rattle.radio_access.specs.Lists.{Lists}
-use Rattle.radio_tables.proofs.KeyLaws.{by_number, by_name}
-use Rattle.radio_seats_rows.specs.declared.seat.Listener.{Listener}
-use Rattle.radio_seats_rows.specs.declared.seat.Seat.{Seat}
-use Rattle.radio_seats_rows.specs.Seats.{seats_at, count_at, SitsAs, has_user, sits_there, with_session_at, AreByNumber}
-use Rattle.radio_seats_rows.proofs.CountLaws.{NobodyCame, nobody_came, nobody_came_hearing, nobody_came_leaving}
-use Rattle.radio_seats_rows.proofs.CountLaws.{one_more_at, no_more_elsewhere, nobody_sits_as}
-use Rattle.radio_fallback.specs.Walk.{MaySit, is_full, is_twice_for, sits_already}
-use Rattle.radio_events.specs.declared.event.Event.{Event}
-use Rattle.radio_events.specs.declared.event.ListenRequest.{ListenRequest}
-use Rattle.radio_parts_changes.specs.declared.change.Change.TheVariants.{TakeSeat}
-use Rattle.radio_parts_station.specs.declared.standing.Standing.TheVariants.{Undecided}
-use Rattle.std.specs.Prelude.{if◌then◌else◌, fold}
-use Rattle.std.proofs.lemmas.Bool.{and_parts}
-use Rattle.radio_access.specs.Lists.{lets_in}
-use Rattle.radio_settings_values.specs.Options.{options_for}
-use Rattle.radio_fallback.specs.declared.moves.Move.{Move}
-use Rattle.radio_fallback.specs.declared.moves.Move.TheVariants.{Ended as SessionEnds, Up}
-use Rattle.radio_fallback.proofs.FaresLemmas.{keeps_limit, sit_once}
-use Rattle.radio_fallback.proofs.TurnLemmas.{lands_where_he_fits}
-use Rattle.radio_parts_changes.specs.Changes.{changed, carried_along, session_over, session_ended, called_home}
-use Rattle.radio_parts_changes.specs.Changes.{before_silence, session_silenced, silent_in, ticked}
-use Rattle.radio_laws.specs.Limits.{IsWithinLimits, SentUser, SitsThereAs, most_at, allows_duplicates_at}
-use Rattle.radio_parts.specs.Listen.{first_seat}
-use Rattle.radio_core.specs.Run.{world_after_all, run_after}
-use Rattle.radio_parts_mount.specs.Sessions.{Session}
-use Rattle.radio_core.specs.Sound.{IsSound}
-use Rattle.radio_parts.specs.Step.{world_after}
-use Rattle.radio_parts_station.specs.StationState.{StationState}
-use Rattle.radio_parts_station.specs.World.{World, world, opening, standing_of}
-use Rattle.radio_core.proofs.Clients.CarriedFates.{order_carried}
-use Rattle.radio_core.proofs.Sound.SoundRuns.{sound_after, sound_opening}
-use Rattle.radio_core.proofs.Sessions.TickLemmas.{sound_sat_out, ticked_fates}
-use Rattle.radio_policy.specs.declared.rule.Rule.TheVariants.{TimeOver}
+use Rattle.radio_laws.proofs.Words.{nat_tests, bytes_eq-Decides, Credentials, Peer, Settings, Lists, by_number, by_name, Listener, Seat, seats_at, count_at, SitsAs, has_user, sits_there, with_session_at, AreByNumber}
+use Rattle.radio_laws.proofs.Words.{NobodyCame, nobody_came, nobody_came_hearing, nobody_came_leaving, one_more_at, no_more_elsewhere, nobody_sits_as, MaySit, is_full, is_twice_for, sits_already, Event, ListenRequest}
+use Rattle.radio_laws.proofs.Words.{TakeSeat, Undecided, if◌then◌else◌, fold, and_parts, lets_in, options_for, Move, Up, keeps_limit, sit_once, lands_where_he_fits, changed, carried_along, session_over, session_ended}
+use Rattle.radio_laws.proofs.Words.{called_home, before_silence, session_silenced, silent_in, ticked, IsWithinLimits, SentUser, SitsThereAs, most_at, allows_duplicates_at, first_seat, world_after_all, run_after, Session}
+use Rattle.radio_laws.proofs.Words.{IsSound, world_after, StationState, World, world, opening, standing_of, order_carried, sound_after, sound_opening, sound_sat_out, ticked_fates, TimeOver, nobody_came_ending, sight_of}
+use Rattle.radio_laws.proofs.Words.{has_sat_out, has_new_seat, beside_new_seat, station_called, keeps_settings, heard_at}
+use Rattle.radio_fallback.specs.declared.moves.Move.TheVariants.{Ended as SessionEnds}
 use Rattle.radio_laws.proofs.Commands.ObeyLemmas.{nobody_came_losing}
-use Rattle.radio_seats_rows.proofs.EndLaws.{nobody_came_ending}
-use Rattle.radio_parts_station.specs.Facts.{sight_of}
-use Rattle.radio_parts_mount.specs.Timeouts.{has_sat_out}
-use Rattle.radio_core.proofs.Sound.Soundness.{has_new_seat, beside_new_seat}
-use Rattle.radio_parts.proofs.CalledStation.{station_called}
-use Rattle.radio_core.proofs.Sessions.SessionSteps.{keeps_settings}
 use Rattle.radio_core.proofs.Seats.GivenSeats.{nobody_came_given}
-use Rattle.radio_parts_station.specs.Waiting.{heard_at}
 use Rattle.radio_laws.proofs.Seats.HeardLaws.{order_given}
 use Rattle.radio_laws.proofs.Seats.TableSteps.{TableStep, IsUntouched, AreEnded, IsEnded, AreCarried, AreGiven, SitsDown, IsHanded}
 use Rattle.radio_laws.proofs.Seats.TableSteps.{IsGone, SourceIsGone, HasTicked, table_step}

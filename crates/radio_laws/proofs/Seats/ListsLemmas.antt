@@ -1,42 +1,12 @@
 -- A client that has arrived passes the address lists. A listener that sits at a mount is let in by its users.
 use Rattle.std.proofs.Common.{◌≡◌, ◌⊎◌, inl, inr, true, ℕ, ◌+◌, ◌<◌, Option, Some, List, [], ◌∷◌, length, refl, ap, sym, subst, ◌∙◌}
-use Rattle.radio_addr.specs.declared.peer.Peer.{Peer}
-use Rattle.radio_policy.specs.declared.rule.Rule.{Rule}
-use Rattle.radio_settings_values.specs.declared.settings.Settings.{Settings}
-use Rattle.radio_access.specs.Lists.{Lists, passes, lets_in}
-use Rattle.radio_events.specs.declared.event.Event.{Event}
-use Rattle.radio_seats_rows.specs.declared.seat.Seat.{Seat}
-use Rattle.radio_seats_rows.specs.Seats.{seat_of}
-use Rattle.radio_parts_station.specs.declared.standing.Standing.TheVariants.{Undecided}
-use Rattle.radio_core.specs.Finishes.{Finishes}
-use Rattle.radio_core.specs.Handing.{handed_at}
-use Rattle.radio_parts.specs.Listen.{first_seat}
-use Rattle.radio_core.specs.Run.{world_after_all, run_after}
-use Rattle.radio_core.specs.SeatSteps.{SeatStep, Stays, IsHanded, SitsDown, IsMoved, Leaves as HeLeaves, IsEnded as HeIsEnded, IsGiven}
-use Rattle.radio_core.specs.Sound.{IsSound}
-use Rattle.radio_parts.specs.Step.{world_after}
-use Rattle.radio_parts_mount.specs.Stream.{data_at}
-use Rattle.radio_parts_station.specs.World.{World, opening, standing_of}
-use Rattle.radio_core.proofs.Clients.FinishLemmas.{undecided_before}
-use Rattle.std.proofs.lemmas.Bool.{and_parts}
-use Rattle.radio_fallback.proofs.TurnLemmas.{lands_where_he_fits}
-use Rattle.radio_parts_station.specs.Facts.{sight_of}
-use Rattle.radio_core.specs.Moves.{moved_into}
-use Rattle.radio_core.proofs.Seats.SeatSteps.{seats_step}
-use Rattle.radio_creds.specs.UserList.{UserList, with_user, without_user}
-use Rattle.radio_access.proofs.UserLaws.{with_changed, let_in_beside}
-use Rattle.radio_policy.specs.declared.rule.Rule.TheVariants.{ListenerPassword}
-use Rattle.radio_tables.proofs.KeyLaws.{by_name}
-use Rattle.radio_seats_rows.proofs.EndLaws.{had_seat}
-use Rattle.radio_parts_station.specs.Outsiders.{is_shut_out}
-use Rattle.radio_parts_changes.specs.Changes.{answered, outsiders_ended}
-use Rattle.radio_core.specs.ListsSteps.{ListsStep, Stay, IsAdded, IsDeleted}
-use Rattle.radio_core.proofs.Seats.ChangedUsers.{with_lists}
-use Rattle.radio_core.proofs.Commands.ListsSteps.{lists_step}
+use Rattle.radio_laws.proofs.Words.{Peer, Rule, Settings, Lists, passes, lets_in, Event, Seat, seat_of, Undecided, Finishes, handed_at, first_seat, world_after_all, run_after, SeatStep, IsHanded, SitsDown, IsMoved}
+use Rattle.radio_laws.proofs.Words.{IsGiven, IsSound, world_after, data_at, World, opening, standing_of, undecided_before, and_parts, lands_where_he_fits, sight_of, moved_into, seats_step, UserList, with_user}
+use Rattle.radio_laws.proofs.Words.{without_user, with_changed, let_in_beside, ListenerPassword, by_name, had_seat, is_shut_out, answered, outsiders_ended, ListsStep, Stay, IsAdded, IsDeleted, with_lists, lists_step}
+use Rattle.radio_laws.proofs.Words.{sound_after, sound_opening, SittersAreLetIn}
+use Rattle.radio_core.specs.SeatSteps.{Stays, Leaves as HeLeaves, IsEnded as HeIsEnded}
 use Rattle.radio_laws.proofs.Commands.CommandSteps.{later_so}
 use Rattle.radio_laws.proofs.Commands.UserChanges.{left, still_let_in, users_step}
-use Rattle.radio_core.proofs.Sound.SoundRuns.{sound_after, sound_opening}
-use Rattle.radio_laws.specs.Users.{SittersAreLetIn}
 
 -- the address of the seat passes the address lists, and its mount lets in its pair
 pub record IsLetIn (lists : Lists) (seat : Seat) : Type 0 where

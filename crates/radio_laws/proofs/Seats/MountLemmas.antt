@@ -1,23 +1,8 @@
 -- a listener that keeps its seat keeps its mount
 use Rattle.std.proofs.Common.{◌≡◌, ◌⊎◌, inl, inr, ℕ, ◌+◌, ◌≤◌, Option, Some, None, List, [], length, refl, ap, sym, subst, ◌∙◌, arith}
-use Rattle.radio_policy.specs.declared.rule.Rule.{Rule}
-use Rattle.radio_events.specs.declared.event.Event.{Event}
-use Rattle.radio_seats_rows.specs.declared.seat.Seat.{Seat}
-use Rattle.radio_parts_station.specs.World.{World}
-use Rattle.radio_core.specs.Handing.{handed_at}
-use Rattle.radio_core.specs.Finishes.{Finishes}
-use Rattle.radio_core.specs.SeatSteps.{IsSent, SeatStep, Stays, IsHanded, SitsDown, IsMoved, Leaves as HeLeaves, IsEnded as HeIsEnded, ComesUpOn, IsGiven}
-use Rattle.radio_seats_rows.specs.Seats.{seat_of}
-use Rattle.radio_core.specs.Sound.{IsSound}
-use Rattle.radio_parts.specs.Step.{world_after}
-use Rattle.radio_core.specs.Moves.{TakesTo, moved_into}
-use Rattle.radio_parts_mount.specs.Sessions.{Session, session_of}
-use Rattle.radio_parts_mount.specs.Stream.{data_at, end_of}
-use Rattle.radio_laws.specs.Stretches.{SeatsKeepTheirMounts}
-use Rattle.radio_core.proofs.Sound.SoundRuns.{sound_after}
-use Rattle.radio_core.proofs.Seats.SeatSteps.{seats_step}
-use Rattle.radio_parts_station.specs.Waiting.{heard_at}
-use Rattle.radio_parts.proofs.HeardLemmas.{heard_live}
+use Rattle.radio_laws.proofs.Words.{Rule, Event, Seat, World, handed_at, Finishes, IsSent, SeatStep, IsHanded, SitsDown, IsMoved, ComesUpOn, IsGiven, seat_of, IsSound, world_after, TakesTo, moved_into, Session}
+use Rattle.radio_laws.proofs.Words.{session_of, data_at, end_of, SeatsKeepTheirMounts, sound_after, seats_step, heard_at, heard_live}
+use Rattle.radio_core.specs.SeatSteps.{Stays, Leaves as HeLeaves, IsEnded as HeIsEnded}
 
 -- A kept seat is the same, except for its place, which does not go back. Or a session begins for which it waited,
 -- or a move takes it to the end of a stream.

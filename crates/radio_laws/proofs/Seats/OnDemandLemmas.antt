@@ -1,29 +1,12 @@
 -- which mounts wait for a session, and which are wanted
 use Rattle.std.proofs.Common.{◌≡◌, ◌⊎◌, inl, inr, Bool, true, false, ℕ, suc, Some, None, List, [], ◌∷◌, refl, ap, sym, subst, ◌∙◌, arith}
-use Rattle.std.specs.Prelude.{find, fold, length, nat_lt, if◌then◌else◌}
-use Rattle.std.specs.Option.{option_map_or}
-use Rattle.std.specs.Str.{bytes_eq}
+use Rattle.radio_laws.proofs.Words.{find, fold, length, nat_lt, if◌then◌else◌, option_map_or, bytes_eq, slice_cmp, Ordering, Less, Equal, Greater, is_eq, nat_cmp, match_ordering, and_parts, nat_tests, bytes_eq-Decides}
+use Rattle.radio_laws.proofs.Words.{Has, Settings, Session, session_of, Listener, Seating, Finished, is_seat_at, seats_at, count_at, StationState, feeds_on_demand, is_on_demand, heard_at, World}
 use Rattle.std.specs.BTreeSet.{insert_key}
-use Rattle.std.specs.Cmp.Lexicographic.{slice_cmp}
-use Rattle.std.specs.declared.cmp.Ordering.{Ordering}
-use Rattle.std.specs.declared.cmp.Ordering.TheVariants.{Less, Equal, Greater}
-use Rattle.std.specs.Ordering.{is_eq, nat_cmp, match_ordering}
-use Rattle.std.proofs.lemmas.Bool.{and_parts}
-use Rattle.std.proofs.lemmas.Bool.Decides.{nat_tests}
 use Rattle.std.proofs.lemmas.Map.Text.{is_eq-slice_cmp}
-use Rattle.std.proofs.lemmas.Slice.Eq.{bytes_eq-Decides}
-use Rattle.radio_tables.specs.Lists.{Has}
 use Rattle.radio_settings_values.specs.declared.settings.RelaySetting.{RelaySetting}
-use Rattle.radio_settings_values.specs.declared.settings.Settings.{Settings}
-use Rattle.radio_parts_mount.specs.Sessions.{Session, session_of}
-use Rattle.radio_seats_rows.specs.declared.seat.Listener.{Listener}
-use Rattle.radio_seats_rows.specs.declared.seat.Seating.{Seating}
-use Rattle.radio_seats_rows.specs.declared.seat.Seating.TheVariants.{Sits, Finished}
-use Rattle.radio_seats_rows.specs.Seats.{is_seat_at, seats_at, count_at}
-use Rattle.radio_parts_station.specs.StationState.{StationState}
-use Rattle.radio_parts_station.specs.Waiting.{feeds_on_demand, is_on_demand, heard_at}
+use Rattle.radio_seats_rows.specs.declared.seat.Seating.TheVariants.{Sits}
 use Rattle.radio_parts_facts.specs.Wanted.{is_wanted, with_wanted, wanted}
-use Rattle.radio_parts_station.specs.World.{World}
 use Rattle.radio_parts_station.proofs.WaitingLemmas.{first_or_other}
 use Rattle.radio_laws.specs.OnDemand.{IsFedOnDemand, WaitsOnDemand, IsSatAt, WantedAreSatAt}
 use Rattle.radio_laws.proofs.Seats.HeardLaws.{nothing_heard}

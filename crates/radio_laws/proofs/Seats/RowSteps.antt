@@ -1,23 +1,9 @@
 -- what becomes of the row of one listener by each change of the table
 use Rattle.std.proofs.Common.{◌≡◌, ◌⊎◌, inl, inr, Bool, ℕ, Option, Some, None, List, refl, ap, sym, subst, ◌∙◌}
-use Rattle.std.specs.Option.{option_map}
-use Rattle.radio_policy.specs.declared.rule.Rule.{Rule}
-use Rattle.radio_tables.proofs.KeyLaws.{by_number}
-use Rattle.radio_seats_rows.specs.declared.seat.Listener.{Listener}
-use Rattle.radio_seats_rows.specs.declared.seat.Seat.{Seat}
-use Rattle.radio_seats_rows.specs.declared.seat.Seating.{Seating}
+use Rattle.radio_laws.proofs.Words.{option_map, Rule, by_number, Listener, Seat, Seating, is_listener, listener_of, seat_in, seat_of, last_mount, AreByNumber, in_session_at, hears_session, with_session_at, with_place}
+use Rattle.radio_laws.proofs.Words.{lost_by, loses, with_end, with_ended, LosesSeat, same_or_loses, listener_hearing, seat_hearing, beside_moved, has_heard, Move, Sight, seat_at_end, carried, found_changed, beside}
+use Rattle.radio_laws.proofs.Words.{Faring, HasStayed, HasGone, HasLost, fares}
 use Rattle.radio_seats_rows.specs.declared.seat.Seating.TheVariants.{Sits as HasSeat, Finished as HasLostIt}
-use Rattle.radio_seats_rows.specs.Seats.{is_listener, listener_of, seat_in, seat_of, last_mount, AreByNumber}
-use Rattle.radio_seats_rows.specs.Seats.{in_session_at, hears_session, with_session_at, with_place, lost_by, loses, with_end, with_ended}
-use Rattle.radio_seats_rows.proofs.EndLaws.{LosesSeat, same_or_loses}
-use Rattle.radio_seats_rows.proofs.GivenLaws.{listener_hearing, seat_hearing}
-use Rattle.radio_seats_rows.proofs.SeatLaws.{beside_moved, has_heard}
-use Rattle.radio_fallback.specs.declared.moves.Move.{Move}
-use Rattle.radio_fallback.specs.Walk.{Sight}
-use Rattle.radio_fallback.specs.Fares.{seat_at_end}
-use Rattle.radio_fallback.specs.Carry.{carried}
-use Rattle.radio_fallback.proofs.FaresLemmas.{found_changed, beside}
-use Rattle.radio_fallback.proofs.Faring.{Faring, HasStayed, HasGone, HasLost, fares}
 
 -- what becomes of the row of a listener
 pub data RowStep (before later : Option Listener) : Type 0 where

@@ -1,39 +1,14 @@
 -- a listener at a mount goes on there when its session ends, if a listener may still sit there
 use Rattle.std.proofs.Common.{◌≡◌, Bool, true, false, ℕ, ◌+◌, ◌<◌, ◌≤◌, ◌==◌, inl, inr, Option, Some, None, List, [], ◌∷◌, not, refl, ap, sym, ◌∙◌}
 use Rattle.std.proofs.Common.{arith}
-use Rattle.std.specs.Prelude.{◌&&◌, filter, map, nat_lt, if◌then◌else◌}
-use Rattle.std.specs.List.{AllByRecursion}
-use Rattle.std.specs.Ordering.{nat_cmp}
-use Rattle.std.specs.declared.cmp.Ordering.TheVariants.{Less}
-use Rattle.std.specs.Str.{bytes_eq}
-use Rattle.std.proofs.lemmas.Bool.Decides.{nat_tests}
+use Rattle.radio_laws.proofs.Words.{◌&&◌, filter, map, nat_lt, if◌then◌else◌, AllByRecursion, nat_cmp, Less, bytes_eq, nat_tests, bytes_eq-Decides, Credentials, Rule, Has, find_here, find_later, by_number, Listener}
+use Rattle.radio_laws.proofs.Words.{Seat, Seating, Finished, is_listener, listener_of, seat_held, seat_in, seat_of, is_seat_at, count_at, has_user, is_user_at, sits_there, with_end, without_listener, AreByNumber, SitsAs}
+use Rattle.radio_laws.proofs.Words.{one, held, passing_removed, beside_left, is_no_listener, order_left, same_order, Ended, Stays, GoesTo, IsOut, Lands, Sight, is_full, is_full_for, is_twice_for, sits_already, landing}
+use Rattle.radio_laws.proofs.Words.{landing_here, next_mount, onward, walk, Carry, walks_on, turn_in, turn_of, carry_after_move, numbers_of, at_first, at_his_turn, IsWithinLimit, SitOnce, seat_at_end, sits_as_before}
+use Rattle.radio_laws.proofs.Words.{turn_cases, shifted_there, shifted_himself, shifted_beside, out_himself, out_beside, count_shifted, count_out, IsShifted, landing_is}
 use Rattle.std.proofs.lemmas.Map.Keys.{sorted_head, sorted_tail}
-use Rattle.std.proofs.lemmas.Slice.Eq.{bytes_eq-Decides}
-use Rattle.radio_creds.specs.Credentials.{Credentials}
-use Rattle.radio_policy.specs.declared.rule.Rule.{Rule}
-use Rattle.radio_tables.specs.Lists.{Has}
-use Rattle.radio_tables.proofs.FindLaws.{find_here, find_later}
-use Rattle.radio_tables.proofs.KeyLaws.{by_number}
-use Rattle.radio_seats_rows.specs.declared.seat.Listener.{Listener}
-use Rattle.radio_seats_rows.specs.declared.seat.Seat.{Seat}
-use Rattle.radio_seats_rows.specs.declared.seat.Seating.{Seating}
-use Rattle.radio_seats_rows.specs.declared.seat.Seating.TheVariants.{Sits, Finished}
-use Rattle.radio_seats_rows.specs.Seats.{is_listener, listener_of, seat_held, seat_in, seat_of, is_seat_at, count_at, has_user, is_user_at, sits_there}
-use Rattle.radio_seats_rows.specs.Seats.{with_end, without_listener, AreByNumber, SitsAs}
-use Rattle.radio_seats_rows.proofs.Lists.{one, held, passing_removed}
-use Rattle.radio_seats_rows.proofs.SeatLaws.{beside_left, is_no_listener}
-use Rattle.radio_parts_mount.proofs.NumberOrder.{order_left, same_order}
-use Rattle.radio_fallback.specs.declared.moves.Move.TheVariants.{Ended}
-use Rattle.radio_fallback.specs.declared.moves.MoveEffect.TheVariants.{Stays, GoesTo, IsOut}
-use Rattle.radio_fallback.specs.declared.walking.Landing.TheVariants.{Lands}
-use Rattle.radio_fallback.specs.Walk.{Sight, is_full, is_full_for, is_twice_for, sits_already, landing, landing_here, next_mount, onward, walk}
-use Rattle.radio_fallback.specs.Carry.{Carry, walks_on, turn_in, turn_of, carry_after_move, numbers_of, at_first, at_his_turn}
-use Rattle.radio_fallback.specs.Fares.{IsWithinLimit, SitOnce, seat_at_end}
+use Rattle.radio_seats_rows.specs.declared.seat.Seating.TheVariants.{Sits}
 use Rattle.radio_fallback.proofs.CarryLemmas.{same_numbers}
-use Rattle.radio_fallback.proofs.Faring.{sits_as_before}
-use Rattle.radio_fallback.proofs.FaresLemmas.{turn_cases, shifted_there, shifted_himself, shifted_beside, out_himself, out_beside, count_shifted, count_out}
-use Rattle.radio_fallback.proofs.TurnLemmas.{IsShifted}
-use Rattle.radio_fallback.proofs.WalkLaws.{landing_is}
 use Rattle.radio_laws.proofs.Seats.LimitLemmas.{sent_as}
 use Rattle.radio_laws.proofs.Denials.ListenerDenials.{some_one, seat_there}
 

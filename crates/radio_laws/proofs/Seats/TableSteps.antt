@@ -1,46 +1,13 @@
 -- what an outcome makes of the table of listeners
 use Rattle.std.proofs.Common.{◌+◌, ◌≡◌, Bool, ℕ, Option, Some, None, List, refl, ap}
-use Rattle.std.specs.Prelude.{length}
-use Rattle.radio_addr.specs.declared.peer.Peer.{Peer}
-use Rattle.radio_policy.specs.declared.rule.Rule.{Rule}
-use Rattle.radio_policy.specs.declared.rule.Rule.TheVariants.{Lagged, Killed, ListenerPassword}
-use Rattle.radio_seats_rows.specs.declared.seat.Listener.{Listener}
-use Rattle.radio_seats_rows.specs.declared.seat.Seat.{Seat}
-use Rattle.radio_seats_rows.specs.Seats.{seat_of, with_seat, with_place, with_end, with_ended, with_session_at, without_listener}
-use Rattle.radio_fallback.specs.declared.moves.Move.{Move}
-use Rattle.radio_fallback.specs.declared.moves.Move.TheVariants.{Ended as SessionEnds, To}
-use Rattle.radio_fallback.specs.declared.walking.Landing.TheVariants.{Lands}
-use Rattle.radio_fallback.specs.Carry.{carried}
-use Rattle.radio_parts_mount.specs.Sessions.{Session, session_of}
-use Rattle.radio_parts_mount.specs.Stream.{data_at}
-use Rattle.radio_parts_mount.specs.Timeouts.{lags_behind}
-use Rattle.radio_parts_station.specs.Facts.{sight_of, walks_to}
-use Rattle.radio_parts_station.specs.StationState.{StationState}
-use Rattle.radio_parts_station.specs.StationChanges.{begun, raised}
-use Rattle.radio_parts_station.specs.Outsiders.{is_shut_out}
-use Rattle.radio_parts_station.specs.Streams.{shown_for}
-use Rattle.radio_parts_station.specs.Waiting.{heard_at}
-use Rattle.radio_parts_station.specs.declared.standing.Standing.TheVariants.{Undecided}
-use Rattle.radio_parts_station.specs.World.{World, world, standing_of}
+use Rattle.radio_laws.proofs.Words.{length, Peer, Rule, Lagged, Killed, ListenerPassword, Listener, Seat, seat_of, with_seat, with_place, with_end, with_ended, with_session_at, without_listener, Move, To, Lands, carried}
+use Rattle.radio_laws.proofs.Words.{Session, session_of, data_at, lags_behind, sight_of, walks_to, StationState, begun, raised, is_shut_out, shown_for, heard_at, Undecided, World, world, standing_of, MoveClients}
+use Rattle.radio_laws.proofs.Words.{KillClient, KillSource, SetFallback, AddUser, DeleteUser, Event, Clock, ListenRequest, Noted, Change, Obey, answered, changed, session_over, session_ended, called_home, session_killed}
+use Rattle.radio_laws.proofs.Words.{user_added, user_deleted, ticked, Outcome, Closes, OfClient, OfRelay, first_seat, says, outcome, reply_to, world_after, Way, Misplaced, IsFinished, IsDenied, IsRefused, IsAdmitted}
+use Rattle.radio_laws.proofs.Words.{Begins, ComesUp, Receives, SetsTitle, TakesSeat, HandsOut, Ends, EndsAndLeaves, Leaves, GoesDown, Obeys, Shows, HasPassed, Ticks, way_of, Leaving, AsClient, AsRelay}
+use Rattle.radio_fallback.specs.declared.moves.Move.TheVariants.{Ended as SessionEnds}
 use Rattle.radio_events.specs.declared.command.Command.{Command as TheCommand}
-use Rattle.radio_events.specs.declared.command.Command.TheVariants.{MoveClients, KillClient, KillSource, SetTitle as NewTitle}
-use Rattle.radio_events.specs.declared.command.Command.TheVariants.{SetFallback, AddUser, DeleteUser}
-use Rattle.radio_events.specs.declared.event.Event.{Event}
-use Rattle.radio_events.specs.declared.event.Event.TheVariants.{Clock}
-use Rattle.radio_events.specs.declared.event.ListenRequest.{ListenRequest}
-use Rattle.radio_events.specs.declared.reply.Reply.TheVariants.{Noted}
-use Rattle.radio_parts_changes.specs.declared.change.Change.{Change}
-use Rattle.radio_parts_changes.specs.declared.change.Change.TheVariants.{Obey}
-use Rattle.radio_parts_changes.specs.Changes.{answered, changed, session_over, session_ended, called_home, session_killed, user_added, user_deleted, ticked}
-use Rattle.radio_parts.specs.declared.outcome.Outcome.{Outcome}
-use Rattle.radio_parts.specs.Closing.{Closes, OfClient, OfRelay}
-use Rattle.radio_parts.specs.Listen.{first_seat}
-use Rattle.radio_parts.specs.Outcomes.{says}
-use Rattle.radio_parts.specs.Step.{outcome, reply_to, world_after}
-use Rattle.radio_parts.specs.Ways.{Way, Misplaced, IsFinished, IsDenied, IsRefused, IsAdmitted, Begins, ComesUp, Receives, SetsTitle, TakesSeat, HandsOut, Ends}
-use Rattle.radio_parts.specs.Ways.{EndsAndLeaves, Leaves, GoesDown, Obeys, Shows, HasPassed, Ticks}
-use Rattle.radio_parts.proofs.Ways.{way_of}
-use Rattle.radio_laws.specs.Gone.{Leaving, AsClient, AsRelay}
+use Rattle.radio_events.specs.declared.command.Command.TheVariants.{SetTitle as NewTitle}
 
 pub data TableStep (w : World) (event : Event) : List Listener → Type 0 where
   -- it is as it was

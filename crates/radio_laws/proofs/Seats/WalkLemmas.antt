@@ -1,26 +1,9 @@
 -- the mount at which a walk ends, and the mounts on its way
 use Rattle.std.proofs.Common.{◌≡◌, ℕ, zero, suc, ◌+◌, ◌<◌, Bool, true, false, ◌&&◌, ◌||◌, not, is_some, Option, Some, None, List, length}
 use Rattle.std.proofs.Common.{refl, subst, arith}
-use Rattle.std.specs.Prelude.{if◌then◌else◌}
-use Rattle.std.specs.Option.{option_map_or}
-use Rattle.std.proofs.lemmas.Bool.Decides.{nat_tests}
-use Rattle.radio_policy.specs.declared.rule.Rule.{Rule}
-use Rattle.radio_policy.specs.declared.rule.Rule.TheVariants.{FallbackDepth}
-use Rattle.radio_creds.specs.Credentials.{Credentials}
-use Rattle.radio_settings_values.specs.Options.{options_for}
-use Rattle.radio_seats_rows.specs.Seats.{seats_at}
-use Rattle.radio_fallback.specs.declared.walking.Landing.{Landing}
-use Rattle.radio_fallback.specs.declared.walking.Landing.TheVariants.{Lands, Stops}
-use Rattle.radio_fallback.specs.Walk.{Sight, is_full, is_full_for, found_at, stop_of, landing_at, landing_here, next_mount, onward, walk}
-use Rattle.radio_fallback.proofs.WalkLaws.{walks_ten}
-use Rattle.radio_events.specs.declared.event.ListenRequest.{ListenRequest}
-use Rattle.radio_parts_station.specs.Facts.{sight_of, walks_to, fallback_of}
-use Rattle.radio_parts_station.specs.Fallbacks.{Fallback, set_for}
-use Rattle.radio_parts_mount.specs.Sessions.{Session}
-use Rattle.radio_parts_station.specs.World.{World}
-use Rattle.radio_laws.specs.Limits.{IsFullAt, most_at}
-use Rattle.radio_laws.specs.Walks.{FallsBack, ByTheSettings, ByACommand, PassesWalkOn, HasNoSource, IsFull, ComesBy, AtFirst, Next}
-use Rattle.radio_parts_station.specs.Waiting.{heard_at}
+use Rattle.radio_laws.proofs.Words.{if◌then◌else◌, option_map_or, nat_tests, Rule, FallbackDepth, Credentials, options_for, seats_at, Landing, Lands, Stops, Sight, is_full, is_full_for, found_at, stop_of, landing_at}
+use Rattle.radio_laws.proofs.Words.{landing_here, next_mount, onward, walk, walks_ten, ListenRequest, sight_of, walks_to, fallback_of, Fallback, set_for, Session, World, IsFullAt, most_at, FallsBack, ByTheSettings}
+use Rattle.radio_laws.proofs.Words.{ByACommand, PassesWalkOn, HasNoSource, IsFull, ComesBy, AtFirst, Next, heard_at}
 
 -- as many sit there as may
 pub full_at : (w : World) (mount : List ℕ) (limit : Option ℕ) → most_at w mount ≡ limit → is_full (length (seats_at w.seats mount)) limit ≡ true

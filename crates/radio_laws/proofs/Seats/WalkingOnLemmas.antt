@@ -1,65 +1,18 @@
 -- what a move makes of each listener
 use Rattle.std.proofs.Common.{◌≡◌, inl, inr, ◌+◌, Bool, true, ℕ, Option, Some, None, is_some, List, [], ◌∷◌, refl, ap, sym, subst, ◌∙◌}
-use Rattle.std.specs.Prelude.{fold, if◌then◌else◌}
-use Rattle.std.proofs.lemmas.Slice.Eq.{bytes_eq-Decides}
-use Rattle.radio_policy.specs.declared.rule.Rule.{Rule}
-use Rattle.radio_policy.specs.declared.judgement.Verdict.{Verdict}
-use Rattle.radio_policy.specs.declared.judgement.Verdict.TheVariants.{Allow}
-use Rattle.radio_policy.specs.Verdicts.{verdict_in}
-use Rattle.radio_addr.specs.declared.peer.Peer.{Peer}
-use Rattle.radio_settings_values.specs.Options.{options_for}
-use Rattle.radio_tables.proofs.KeyLaws.{by_number}
-use Rattle.radio_fallback.specs.declared.moves.Move.{Move}
-use Rattle.radio_fallback.specs.declared.moves.Move.TheVariants.{Ended, Up}
-use Rattle.radio_fallback.specs.declared.moves.MoveEffect.TheVariants.{Stays, GoesTo, IsOut}
-use Rattle.radio_fallback.specs.Fares.{seat_at_end}
-use Rattle.radio_fallback.proofs.Faring.{Faring, HasStayed, HasGone, HasLost, fares, nobody_stays}
-use Rattle.radio_seats_rows.specs.declared.seat.Seat.{Seat}
-use Rattle.radio_seats_rows.specs.Seats.{listener_of, seat_in, seat_of, AreByNumber}
-use Rattle.radio_seats_rows.proofs.SeatLaws.{beside_left}
-use Rattle.radio_events.specs.declared.event.Event.{Event}
-use Rattle.radio_events.specs.declared.event.Event.TheVariants.{Source, SourceEnd, Command, RelayUp, Clock}
-use Rattle.radio_events.specs.declared.command.CommandRequest.{CommandRequest}
-use Rattle.radio_values.specs.declared.field.Shown.{Shown}
-use Rattle.radio_parts.specs.Closing.{Closes, OfClient, OfRelay}
+use Rattle.radio_laws.proofs.Words.{fold, if◌then◌else◌, bytes_eq-Decides, Rule, Verdict, Allow, verdict_in, Peer, options_for, by_number, Move, Ended, Up, Stays, GoesTo, IsOut, seat_at_end, Faring, HasStayed, HasGone}
+use Rattle.radio_laws.proofs.Words.{HasLost, fares, nobody_stays, Seat, listener_of, seat_in, seat_of, AreByNumber, beside_left, Event, Source, SourceEnd, Command, RelayUp, Clock, CommandRequest, Shown, Closes, OfClient}
+use Rattle.radio_laws.proofs.Words.{OfRelay, SourceRequest, Noted, Stray, Nothing, Answer, End, EndAndLeave, Outcome, Standing, Undecided, Feeds, changed, carried_along, called_home, session_over, session_ended}
+use Rattle.radio_laws.proofs.Words.{before_silence, session_silenced, sight_of, rows_to_feed, rows_to_raise, live_end, Brings, ByItsEnd, ByItsLeaving, BySilence, ByComingUp, ByRelayUp, ByKilling, ByMoving, his_turn}
+use Rattle.radio_laws.proofs.Words.{says, if_feeding, unless_relayed, if_undecided, on_verdict, leaves_from, goes_down_from, raises, Session, IsSound, begins, outcome, world_after, end_of, World, standing_of, has_relay}
+use Rattle.radio_laws.proofs.Words.{is_cut, named, order_carried, sound_sat_out, heard_at, is_on_demand, heard_end, heard_number, SittersAreLetIn, lets_in, HadASeat, had_seats, had_seat, TimeOver, has_sat_out}
 use Rattle.radio_core.proofs.Clients.ClosingLemmas.{closes_his}
-use Rattle.radio_events.specs.declared.event.SourceRequest.{SourceRequest}
 use Rattle.radio_seats_rows.specs.declared.seat.Seating.TheVariants.{Finished as HasFinished}
-use Rattle.radio_events.specs.declared.reply.Reply.TheVariants.{Noted, Stray}
-use Rattle.radio_parts_changes.specs.declared.change.Change.TheVariants.{Nothing, Answer, End, EndAndLeave}
-use Rattle.radio_parts.specs.declared.outcome.Outcome.{Outcome}
-use Rattle.radio_parts_station.specs.declared.standing.Standing.{Standing}
-use Rattle.radio_parts_station.specs.declared.standing.Standing.TheVariants.{Undecided, Feeds}
-use Rattle.radio_parts_changes.specs.Changes.{changed, carried_along, called_home, session_over, session_ended, before_silence, session_silenced}
-use Rattle.radio_parts_station.specs.Facts.{sight_of, rows_to_feed, rows_to_raise, live_end}
-use Rattle.radio_core.specs.Moves.{Brings, ByItsEnd, ByItsLeaving, BySilence, ByComingUp, ByRelayUp, ByKilling, ByMoving, his_turn}
-use Rattle.radio_parts.specs.Outcomes.{says, if_feeding, unless_relayed, if_undecided, on_verdict}
-use Rattle.radio_parts.specs.Leave.{leaves_from}
-use Rattle.radio_parts.specs.RelayDown.{goes_down_from}
-use Rattle.radio_parts.specs.RelayUp.{raises}
-use Rattle.radio_parts_mount.specs.Sessions.{Session}
-use Rattle.radio_core.specs.Sound.{IsSound}
-use Rattle.radio_parts.specs.Source.{begins}
-use Rattle.radio_parts.specs.Step.{outcome, world_after}
-use Rattle.radio_parts_mount.specs.Stream.{end_of}
-use Rattle.radio_parts_station.specs.World.{World, standing_of, has_relay}
 use Rattle.radio_laws.specs.WalkingOn.{FaresByHisTurn, ListenersWalkOn, MovesAreWhole}
 use Rattle.radio_laws.proofs.Commands.CommandSteps.{later_so}
-use Rattle.radio_core.proofs.Clients.Obeyed.{is_cut, named}
-use Rattle.radio_core.proofs.Clients.CarriedFates.{order_carried}
-use Rattle.radio_core.proofs.Sessions.TickLemmas.{sound_sat_out}
-use Rattle.radio_parts_station.specs.Waiting.{heard_at, is_on_demand}
-use Rattle.radio_parts.proofs.HeardLemmas.{heard_end, heard_number}
 use Rattle.radio_laws.proofs.Seats.HeardLaws.{heard_on_demand, order_given}
 use Rattle.radio_laws.proofs.Seats.LimitLemmas.{Within, other_station, within_silence, within_sat_out}
 use Rattle.radio_laws.proofs.Seats.StayingOn.{stays_on}
-use Rattle.radio_laws.specs.Users.{SittersAreLetIn}
-use Rattle.radio_access.specs.Lists.{lets_in}
-use Rattle.radio_fallback.specs.Fares.{HadASeat}
-use Rattle.radio_fallback.proofs.FaresLemmas.{had_seats}
-use Rattle.radio_seats_rows.proofs.EndLaws.{had_seat}
-use Rattle.radio_policy.specs.declared.rule.Rule.TheVariants.{TimeOver}
-use Rattle.radio_parts_mount.specs.Timeouts.{has_sat_out}
 
 found_there : {A : Type 0} (found : Option A) → is_some found ≡ true → (x : A) × (found ≡ Some x)
 found_there None e = cc

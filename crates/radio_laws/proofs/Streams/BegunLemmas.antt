@@ -1,22 +1,7 @@
 -- what holds of each session after one has begun
 use Rattle.std.proofs.Common.{◌≡◌, ℕ, ◌+◌, Some, None, List, refl, ap, sym, subst, ◌∙◌, arith}
-use Rattle.radio_addr.specs.declared.peer.Peer.{Peer}
-use Rattle.radio_values.specs.declared.field.Shown.{Shown}
-use Rattle.radio_events.specs.declared.event.SourceRequest.{SourceRequest}
-use Rattle.radio_parts_station.specs.StationState.{StationState}
-use Rattle.radio_parts_station.specs.declared.standing.Standing.TheVariants.{Undecided, Feeds}
-use Rattle.radio_parts_changes.specs.Changes.{changed, called_home}
-use Rattle.radio_parts_station.specs.StationChanges.{begun, raised}
-use Rattle.radio_parts.specs.RelayUp.{raises}
-use Rattle.radio_core.specs.Sound.{IsSound}
-use Rattle.radio_parts.specs.Source.{begins}
-use Rattle.radio_parts_station.specs.Streams.{shown_for}
-use Rattle.radio_parts_station.specs.World.{World, world, standing_of}
-use Rattle.radio_parts_mount.specs.Sessions.{Session, session_of, opened, with_session}
-use Rattle.radio_parts.proofs.CalledStation.{station_called}
-use Rattle.radio_core.proofs.Sound.SoundSessions.{begun_cases}
-use Rattle.radio_core.proofs.Clients.Standings.{Turns, asks, turns_feeding, turns_raised}
-use Rattle.radio_seats_rows.specs.Seats.{with_session_at}
+use Rattle.radio_laws.proofs.Words.{Peer, Shown, SourceRequest, StationState, Undecided, Feeds, changed, called_home, begun, raised, raises, IsSound, begins, shown_for, World, world, standing_of, Session, session_of}
+use Rattle.radio_laws.proofs.Words.{opened, with_session, station_called, begun_cases, Turns, asks, turns_feeding, turns_raised, with_session_at}
 
 module _ (w : World) (s : IsSound w) (P : Session → Type 0)
     (old : (mount : List ℕ) (session : Session) → session_of w.station.live mount ≡ Some session → P session) where

@@ -1,35 +1,12 @@
 -- what an outcome brings to sessions: blocks, titles, and sessions that begin
 use Rattle.std.proofs.Common.{◌≡◌, ◌⊎◌, inl, inr, ℕ, ◌<◌, Some, None, List, [], refl, arith}
-use Rattle.radio_addr.specs.declared.peer.Peer.{Peer}
-use Rattle.radio_parts_mount.specs.Sessions.{Session, session_of, without_session}
+use Rattle.radio_laws.proofs.Words.{Peer, Session, session_of, without_session, Event, Push, Title, Noted, ReplyText, Done, Moved, Json, Public, Page, IsShort, Undecided, Feeds, World, standing_of, changed, Answer}
+use Rattle.radio_laws.proofs.Words.{Receive, SetTitle, Outcome, IsCommanded, Closes, OfClient, OfRelay, obeys, block_in, of_client, says, IsShownBy, IsSound, outcome, Way, Misplaced, IsFinished, IsDenied, IsRefused}
+use Rattle.radio_laws.proofs.Words.{IsAdmitted, Begins, ComesUp, Receives, SetsTitle, TakesSeat, HandsOut, Ends, EndsAndLeaves, Leaves, GoesDown, Obeys, Shows, HasPassed, Ticks, shown_long, nothing_of, was_live}
+use Rattle.radio_laws.proofs.Words.{ticked_fates, way_of, title_of_event, set_by}
 use Rattle.radio_events.specs.declared.command.Command.{Command as TheCommand}
-use Rattle.radio_events.specs.declared.event.Event.{Event}
-use Rattle.radio_events.specs.declared.event.Event.TheVariants.{Push, Title}
-use Rattle.radio_events.specs.declared.reply.Reply.TheVariants.{Noted, Text as SaysText}
-use Rattle.radio_events.specs.declared.text.ReplyText.{ReplyText}
-use Rattle.radio_events.specs.declared.text.ReplyText.TheVariants.{Done, Moved, Json, Streams, Public, Page, Ended as ListenersEnded}
-use Rattle.radio_events.specs.Texts.{IsShort}
-use Rattle.radio_parts_station.specs.declared.standing.Standing.TheVariants.{Undecided, Feeds}
-use Rattle.radio_parts_station.specs.World.{World, standing_of}
-use Rattle.radio_parts_changes.specs.Changes.{changed}
-use Rattle.radio_parts_changes.specs.declared.change.Change.TheVariants.{Answer, Receive, SetTitle}
-use Rattle.radio_parts.specs.declared.outcome.Outcome.{Outcome}
-use Rattle.radio_parts.specs.Allowed.{IsCommanded}
-use Rattle.radio_parts.specs.Closing.{Closes, OfClient, OfRelay}
-use Rattle.radio_parts.specs.Command.{obeys}
-use Rattle.radio_core.specs.Handing.{block_in, of_client}
-use Rattle.radio_parts.specs.Outcomes.{says}
-use Rattle.radio_parts.specs.Pages.{IsShownBy}
-use Rattle.radio_core.specs.Sound.{IsSound}
-use Rattle.radio_parts.specs.Step.{outcome}
-use Rattle.radio_parts.specs.Ways.{Way, Misplaced, IsFinished, IsDenied, IsRefused, IsAdmitted, Begins, ComesUp, Receives, SetsTitle, TakesSeat, HandsOut, Ends}
-use Rattle.radio_parts.specs.Ways.{EndsAndLeaves, Leaves, GoesDown, Obeys, Shows, HasPassed, Ticks}
-use Rattle.radio_parts.proofs.ListingLemmas.{shown_long}
-use Rattle.radio_core.proofs.Clients.OwnLemmas.{nothing_of}
-use Rattle.radio_core.proofs.Sound.SoundEnds.{was_live}
-use Rattle.radio_core.proofs.Sessions.TickLemmas.{ticked_fates}
-use Rattle.radio_parts.proofs.Ways.{way_of}
-use Rattle.radio_laws.specs.TitlesTold.{title_of_event, set_by}
+use Rattle.radio_events.specs.declared.reply.Reply.TheVariants.{Text as SaysText}
+use Rattle.radio_events.specs.declared.text.ReplyText.TheVariants.{Streams, Ended as ListenersEnded}
 use Rattle.radio_laws.proofs.Streams.BegunLemmas.{source_begins, relay_begins}
 
 -- what an outcome sets for the source of this number

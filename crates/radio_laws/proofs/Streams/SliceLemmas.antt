@@ -2,9 +2,7 @@
 use Rattle.std.proofs.Common.{◌≡◌, ℕ, ◌+◌, ◌-◌, ◌≤◌, List, [], ◌∷◌, ◌++◌, zero, suc}
 use Rattle.std.proofs.Common.{length, take, drop, refl, ap, sym, ◌∙◌, arith, append_assoc, length-drop}
 use Rattle.std.proofs.Math.Seq.{take-add}
-use Rattle.std.proofs.lemmas.List.{take-append-le, drop-append-le, drop-drop}
-use Rattle.std.specs.List.{concat}
-use Rattle.radio_laws.specs.Stretches.{between, Sitting, AreStretches, AreSlices, Cut, cut_behind}
+use Rattle.radio_laws.proofs.Words.{take-append-le, drop-append-le, drop-drop, concat, between, Sitting, AreStretches, AreSlices, Cut, cut_behind}
 
 pub between_grown : (start stop : ℕ) (xs ys : List ℕ) → start ≤ stop → stop ≤ length xs → between start stop (xs ++ ys) ≡ between start stop xs
 between_grown start stop xs ys low high = ap (take (stop - start)) (drop-append-le start xs ys (omega arith)) ∙ take-append-le (stop - start)

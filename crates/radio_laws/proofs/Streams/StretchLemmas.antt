@@ -1,48 +1,17 @@
 -- the law of stretches
 use Rattle.std.proofs.Common.{◌≡◌, ◌⊎◌, inl, inr, true, false, Bool, ℕ, ◌+◌, ◌<◌, ◌≤◌, ◌==◌, Option, Some, None, List, [], ◌∷◌, ◌++◌}
 use Rattle.std.proofs.Common.{length, refl, ap, sym, subst, ◌∙◌, arith, append_assoc, length-append}
-use Rattle.std.specs.Prelude.{if◌then◌else◌}
-use Rattle.std.specs.List.{concat}
+use Rattle.radio_laws.proofs.Words.{if◌then◌else◌, concat, nat_tests, bytes_eq-Decides, bytes_eq, Peer, Settings, Lists, passes, by_number, Event, Push, Title, Receive, SetTitle, Outcome, Seat, Unknown, Undecided, Feeds}
+use Rattle.radio_laws.proofs.Words.{World, opening, standing_of, changed, block_in, of_client, handed_at, handed, delivered_at, delivered, seat_of, Session, session_of, IsSound, outcome, world_after, WholeStream}
+use Rattle.radio_laws.proofs.Words.{data_at, end_of, between, Sitting, sitting_of_seat, begun_sittings, sittings, AreStretches, StretchesAreWhole, IsSlice, AreSlices, Cut, cut_behind, cut_at_sittings, StretchesAreCut}
+use Rattle.radio_laws.proofs.Words.{undecided_before, not_of, nothing_of, is_taken_in, moved_into, seats_step, Finishes, SeatStep, IsHanded, SitsDown, IsMoved, IsGiven, Rule, grown_cases, titled_cases, sound_after}
+use Rattle.radio_laws.proofs.Words.{sound_opening, heard_cases, heard_at}
 use Rattle.std.proofs.Math.Path.{fun_ext}
-use Rattle.std.proofs.lemmas.Bool.Decides.{nat_tests}
-use Rattle.std.proofs.lemmas.Slice.Eq.{bytes_eq-Decides}
-use Rattle.std.specs.Str.{bytes_eq}
-use Rattle.radio_addr.specs.declared.peer.Peer.{Peer}
-use Rattle.radio_settings_values.specs.declared.settings.Settings.{Settings}
-use Rattle.radio_access.specs.Lists.{Lists, passes}
-use Rattle.radio_tables.proofs.KeyLaws.{by_number}
-use Rattle.radio_events.specs.declared.event.Event.{Event}
-use Rattle.radio_events.specs.declared.event.Event.TheVariants.{Push, Title}
 use Rattle.radio_laws.proofs.Streams.BroughtLemmas.{IsOldOrEmpty, IsOld, IsEmpty, Brought, BringsBlock, BringsTitle, ByCommand, BringsNothing, brought}
-use Rattle.radio_parts_changes.specs.declared.change.Change.TheVariants.{Receive, SetTitle}
-use Rattle.radio_parts.specs.declared.outcome.Outcome.{Outcome}
-use Rattle.radio_seats_rows.specs.declared.seat.Seat.{Seat}
-use Rattle.radio_parts_station.specs.declared.standing.Standing.TheVariants.{Unknown, Undecided, Feeds}
-use Rattle.radio_parts_station.specs.World.{World, opening, standing_of}
-use Rattle.radio_parts_changes.specs.Changes.{changed}
-use Rattle.radio_core.specs.Handing.{block_in, of_client, handed_at, handed, delivered_at, delivered}
-use Rattle.radio_seats_rows.specs.Seats.{seat_of}
-use Rattle.radio_parts_mount.specs.Sessions.{Session, session_of}
-use Rattle.radio_core.specs.Sound.{IsSound}
-use Rattle.radio_parts.specs.Step.{outcome, world_after}
-use Rattle.radio_parts_mount.specs.Stream.{WholeStream, data_at, end_of}
-use Rattle.radio_laws.specs.Stretches.{between, Sitting, sitting_of_seat, begun_sittings, sittings, AreStretches, StretchesAreWhole, IsSlice, AreSlices, Cut, cut_behind, cut_at_sittings, StretchesAreCut}
-use Rattle.radio_core.proofs.Clients.FinishLemmas.{undecided_before}
-use Rattle.radio_core.proofs.Clients.OwnLemmas.{not_of, nothing_of}
 use Rattle.radio_laws.proofs.Ends.GoneLemmas.{his_own, with_nothing, last_rises}
-use Rattle.radio_parts_changes.proofs.PartChanges.{is_taken_in}
-use Rattle.radio_core.specs.Moves.{moved_into}
-use Rattle.radio_core.proofs.Seats.SeatSteps.{seats_step}
-use Rattle.radio_core.specs.Finishes.{Finishes}
-use Rattle.radio_core.specs.SeatSteps.{SeatStep, Stays, IsHanded, SitsDown, IsMoved, Leaves as HeLeaves, IsEnded as HeIsEnded, IsGiven}
-use Rattle.radio_policy.specs.declared.rule.Rule.{Rule}
-use Rattle.radio_core.proofs.Sound.SoundSessions.{grown_cases}
-use Rattle.radio_core.proofs.Sound.SoundTitles.{titled_cases}
+use Rattle.radio_core.specs.SeatSteps.{Stays, Leaves as HeLeaves, IsEnded as HeIsEnded}
 use Rattle.radio_laws.proofs.Commands.ObeyLemmas.{was_live_then}
-use Rattle.radio_core.proofs.Sound.SoundRuns.{sound_after, sound_opening}
-use Rattle.radio_parts.proofs.HeardLemmas.{heard_cases}
 use Rattle.radio_laws.proofs.Streams.SliceLemmas.{between_grown, between_drawn, between_joined, between_none, cut_joined, joined_slices}
-use Rattle.radio_parts_station.specs.Waiting.{heard_at}
 
 -- a seat in the same session begins no sitting
 begun_same : (old seat : Seat) (b : Bool) → (old.session == seat.session) ≡ b → b ≡ true → (if b then [] else sitting_of_seat seat ∷ []) ≡ []

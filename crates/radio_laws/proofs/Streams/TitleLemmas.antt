@@ -1,52 +1,20 @@
 -- the law of titles
 use Rattle.std.proofs.Common.{◌≡◌, ◌⊎◌, inl, inr, Bool, true, false, ℕ, ◌<◌, ◌==◌, Option, Some, None, List, [], ◌∷◌, ◌++◌}
 use Rattle.std.proofs.Common.{refl, ap, sym, subst, ◌∙◌, arith, append_assoc}
-use Rattle.std.specs.Prelude.{if◌then◌else◌}
-use Rattle.std.specs.List.{last_or}
-use Rattle.std.specs.Option.{option_map}
-use Rattle.std.specs.Str.{bytes_eq}
-use Rattle.std.proofs.lemmas.Bool.Decides.{nat_tests}
-use Rattle.std.proofs.lemmas.List.{append-nil}
-use Rattle.std.proofs.lemmas.Slice.Eq.{bytes_eq-Decides}
-use Rattle.radio_addr.specs.declared.peer.Peer.{Peer}
-use Rattle.radio_settings_values.specs.declared.settings.Settings.{Settings}
-use Rattle.radio_access.specs.Lists.{Lists, passes}
-use Rattle.radio_tables.proofs.KeyLaws.{by_number}
-use Rattle.radio_events.specs.declared.command.Asked.{Asked}
+use Rattle.radio_laws.proofs.Words.{if◌then◌else◌, last_or, option_map, bytes_eq, nat_tests, append-nil, bytes_eq-Decides, Peer, Settings, Lists, passes, by_number, Asked, MoveClients, KillClient, KillSource}
+use Rattle.radio_laws.proofs.Words.{SetFallback, AddUser, DeleteUser, Event, Push, Title, Receive, SetTitle, Outcome, Unknown, Undecided, Feeds, World, opening, standing_of, answered, changed, session_killed}
+use Rattle.radio_laws.proofs.Words.{IsCommanded, is_same_number, of_client, world_after_all, run_after, Session, session_of, IsSound, outcome, reply_to, world_after, commanded_at, commanded_in, set_at, titles_set}
+use Rattle.radio_laws.proofs.Words.{last_title, TitlesAreTold, undecided_before, title_live, not_of, nothing_of, was_live, is_taken_in, sound_after, sound_opening, sound_run, grown_cases, titled_cases, heard_cases}
+use Rattle.radio_laws.proofs.Words.{heard_at}
 use Rattle.radio_events.specs.declared.command.Asked.TheVariants.{Command as Asks}
 use Rattle.radio_events.specs.declared.command.Command.{Command as TheCommand}
-use Rattle.radio_events.specs.declared.command.Command.TheVariants.{MoveClients, KillClient, KillSource, SetTitle as CommandsTitle, SetFallback}
-use Rattle.radio_events.specs.declared.command.Command.TheVariants.{AddUser, DeleteUser}
-use Rattle.radio_events.specs.declared.event.Event.{Event}
-use Rattle.radio_events.specs.declared.event.Event.TheVariants.{Push, Title}
+use Rattle.radio_events.specs.declared.command.Command.TheVariants.{SetTitle as CommandsTitle}
 use Rattle.radio_laws.proofs.Streams.BroughtLemmas.{sets, IsOldOrEmpty, IsOld, IsEmpty, Brought, BringsBlock, BringsTitle, ByCommand, BringsNothing, brought}
-use Rattle.radio_parts_changes.specs.declared.change.Change.TheVariants.{Receive, SetTitle}
-use Rattle.radio_parts.specs.declared.outcome.Outcome.{Outcome}
-use Rattle.radio_parts_station.specs.declared.standing.Standing.TheVariants.{Unknown, Undecided, Feeds}
-use Rattle.radio_parts_station.specs.World.{World, opening, standing_of}
-use Rattle.radio_parts_changes.specs.Changes.{answered, changed, session_killed}
 use Rattle.radio_parts.specs.Command.{obeys as obeys_it}
-use Rattle.radio_parts.specs.Allowed.{IsCommanded}
-use Rattle.radio_core.specs.Handing.{is_same_number, of_client}
-use Rattle.radio_core.specs.Run.{world_after_all, run_after}
-use Rattle.radio_parts_mount.specs.Sessions.{Session, session_of}
-use Rattle.radio_core.specs.Sound.{IsSound}
-use Rattle.radio_parts.specs.Step.{outcome, reply_to, world_after}
-use Rattle.radio_laws.specs.TitlesTold.{commanded_at, commanded_in, set_at, titles_set, last_title, TitlesAreTold}
 use Rattle.radio_laws.proofs.Seats.AccessLemmas.{access_holds}
-use Rattle.radio_core.proofs.Clients.FinishLemmas.{undecided_before}
-use Rattle.radio_core.proofs.Clients.Obeyed.{title_live}
-use Rattle.radio_core.proofs.Clients.OwnLemmas.{not_of, nothing_of}
 use Rattle.radio_laws.proofs.Ends.GoneLemmas.{his_own, with_nothing, last_rises}
 use Rattle.radio_laws.proofs.Seats.ListsLemmas.{lists_run}
 use Rattle.radio_laws.proofs.Seats.LimitLemmas.{within_run}
-use Rattle.radio_core.proofs.Sound.SoundEnds.{was_live}
-use Rattle.radio_parts_changes.proofs.PartChanges.{is_taken_in}
-use Rattle.radio_core.proofs.Sound.SoundRuns.{sound_after, sound_opening, sound_run}
-use Rattle.radio_core.proofs.Sound.SoundSessions.{grown_cases}
-use Rattle.radio_core.proofs.Sound.SoundTitles.{titled_cases}
-use Rattle.radio_parts.proofs.HeardLemmas.{heard_cases}
-use Rattle.radio_parts_station.specs.Waiting.{heard_at}
 
 -- the last of a list with one more
 last_is : {A : Type 0} (o : Option A) (xs : List A) (x : A) → last_or o (xs ++ x ∷ []) ≡ Some x

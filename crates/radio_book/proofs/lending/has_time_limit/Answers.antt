@@ -1,7 +1,7 @@
 use Rattle.std.proofs.Common.{sym, ◌∙◌, rules, tests}
 use Rattle.std.proofs.lemmas.Iterator.{YieldsList-from_slice}
 use Rattle.std.proofs.lemmas.Iterator.Search.{any_from_yields_List}
-use Rattle.radio_settings_values.specs.declared.settings.MountSetting.{MountSetting}
+use Rattle.radio_book.proofs.Words.{MountSetting}
 use Rattle.radio_book.proofs.ClockLemmas.{limits, never_due}
 use Rattle.radio_book.proofs.lending.has_time_limit.Goals as goal
 

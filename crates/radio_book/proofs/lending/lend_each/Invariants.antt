@@ -1,7 +1,5 @@
 use Rattle.std.proofs.Common.{◌≡◌, List, ◌++◌, take, drop}
-use Rattle.radio_parts_station.specs.World.{World}
-use Rattle.radio_book.specs.LentParts.{AreLent}
-use Rattle.radio_book.specs.MountBooks.{BookOfMount}
+use Rattle.radio_book.proofs.Words.{World, AreLent, BookOfMount}
 use Rattle.radio_book.proofs.lending.lend_each.Given as goal
 
 -- those from the index on are as they were, and once they are lent, behind those that were, each was lent

@@ -1,7 +1,5 @@
 use Rattle.std.proofs.Common.{◌≡◌, ◌+◌, List, [], ◌∷◌, ◌++◌, take, sym, subst, ◌∙◌, ap, arith, append_assoc}
-use Rattle.std.proofs.lemmas.List.{take_more}
-use Rattle.radio_chronicle.specs.declared.line.ControlLine.{ControlLine}
-use Rattle.radio_book.specs.MountBooks.{AreCuts, BookOfMount}
+use Rattle.radio_book.proofs.Words.{take_more, ControlLine, AreCuts, BookOfMount}
 use Rattle.radio_book.proofs.MountBookLemmas.{cut_more}
 use Rattle.radio_book.proofs.lending.note_cuts.Goals as goal
 

@@ -1,6 +1,5 @@
 use Rattle.std.proofs.Common.{◌≡◌, ◌+◌, ◌≤◌, ◌++◌, true, false, List, take}
-use Rattle.radio_chronicle.specs.declared.line.ControlLine.{ControlLine}
-use Rattle.radio_book.specs.MountBooks.{AreCuts}
+use Rattle.radio_book.proofs.Words.{ControlLine, AreCuts}
 use Rattle.radio_book.proofs.lending.note_cuts.Given as goal
 
 -- there is a cut for each before the index

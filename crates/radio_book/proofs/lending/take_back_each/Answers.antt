@@ -1,7 +1,5 @@
 use Rattle.std.proofs.Common.{◌≡◌, List, [], ◌++◌, take, subst, ◌∙◌, refl}
-use Rattle.std.proofs.lemmas.List.{append-nil, drop_all, take_all}
-use Rattle.radio_book.specs.LentParts.{AreBack}
-use Rattle.radio_book.specs.MountBooks.{BookOfMount}
+use Rattle.radio_book.proofs.Words.{append-nil, drop_all, take_all, AreBack, BookOfMount}
 use Rattle.radio_book.proofs.MountBookLemmas.{none_back}
 use Rattle.radio_book.proofs.lending.take_back_each.Goals as goal
 

@@ -1,8 +1,6 @@
 use Rattle.std.proofs.Common.{◌≡◌, ◌⊎◌, inl, inr, Result, Ok, Err, IsOk, OnErr, ◌∙◌, sym}
 use Rattle.std.proofs.lemmas.Bool.{false≢true}
-use Rattle.radio_events.specs.Replies.{HoldsNoText}
-use Rattle.radio_parts_mount.specs.declared.part.MountPart.{MountPart}
-use Rattle.radio_chronicle.specs.OwnSteps.{set_back_in}
+use Rattle.radio_chronicle.proofs.Words.{HoldsNoText, MountPart, set_back_in}
 use Rattle.radio_chronicle.proofs.OwnLemmas.{undone}
 use Rattle.radio_chronicle.proofs.own_steps.step_twice.Goals as goal
 

@@ -1,7 +1,5 @@
 use Rattle.std.proofs.Common.{◌≡◌, Option, Some, IfOk, sym, subst}
-use Rattle.radio_parts_mount.specs.Steps.{CanDraw}
-use Rattle.radio_parts_mount.specs.declared.part.MountPart.{MountPart}
-use Rattle.radio_chronicle.specs.OwnSteps.{once, CanDrawHere, IsKeptUnlessReplied}
+use Rattle.radio_chronicle.proofs.Words.{CanDraw, MountPart, once, CanDrawHere, IsKeptUnlessReplied}
 use Rattle.radio_chronicle.proofs.OwnLemmas.{twice_kept_in}
 use Rattle.radio_chronicle.proofs.own_steps.step_twice_here.Goals as goal
 

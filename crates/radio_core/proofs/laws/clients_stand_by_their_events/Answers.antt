@@ -1,4 +1,4 @@
-use Rattle.radio_core.specs.Run.{run_after}
+use Rattle.radio_core.proofs.Words.{run_after}
 use Rattle.radio_core.proofs.Clients.ArrivalLemmas.{arrivals_stay}
 use Rattle.radio_core.proofs.Clients.ClientSteps.{clients_step}
 use Rattle.radio_core.proofs.Sound.SoundRuns.{sound_run}

@@ -1,4 +1,4 @@
-use Rattle.radio_core.specs.Run.{run_after}
+use Rattle.radio_core.proofs.Words.{run_after}
 use Rattle.radio_core.proofs.Sound.SoundRuns.{sound_run}
 use Rattle.radio_core.proofs.Clients.FinishLemmas.{others_hold}
 use Rattle.radio_core.proofs.Seats.LostSeats.{loses_no_seat_else}

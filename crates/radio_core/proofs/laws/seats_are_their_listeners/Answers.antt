@@ -1,4 +1,4 @@
-use Rattle.radio_core.specs.Run.{run_after}
+use Rattle.radio_core.proofs.Words.{run_after}
 use Rattle.radio_core.proofs.Sound.SoundRuns.{sound_run}
 use Rattle.radio_core.proofs.Seats.SeatSteps.{seats_step}
 use Rattle.radio_core.proofs.laws.seats_are_their_listeners.Goals as goal

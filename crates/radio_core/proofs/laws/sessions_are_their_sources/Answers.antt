@@ -1,4 +1,4 @@
-use Rattle.radio_core.specs.Run.{run_after}
+use Rattle.radio_core.proofs.Words.{run_after}
 use Rattle.radio_core.proofs.Sound.SoundRuns.{sound_run}
 use Rattle.radio_core.proofs.Sessions.SessionSteps.{sessions_step, keeps_settings}
 use Rattle.radio_core.proofs.laws.sessions_are_their_sources.Goals as goal

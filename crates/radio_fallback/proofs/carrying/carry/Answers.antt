@@ -1,11 +1,7 @@
-use Rattle.std.proofs.Common.{◌≡◌, ◌<◌, ◌^◌, ℕ, List, length, refl, ap, sym, subst, ◌∙◌, arith}
-use Rattle.radio_seats_rows.specs.SeatTable.{SeatTable}
+use Rattle.std.proofs.Common.{◌≡◌, ◌<◌, ◌^◌, List, length, refl, ap, sym, subst, ◌∙◌, arith}
+use Rattle.radio_fallback.proofs.Words.{SeatTable, ends_in, with_ends, Carry, carry_after_move, turn_of, turns, heard}
 use Rattle.radio_seats.proofs.RowLemmas.{same_table}
-use Rattle.radio_parts_mount.specs.StatePart.{ends_in}
 use Rattle.radio_parts_mount.specs.Sessions.{Session}
-use Rattle.radio_fallback.specs.Walk.{with_ends}
-use Rattle.radio_fallback.specs.Carry.{Carry, carry_after_move, turn_of, turns}
-use Rattle.radio_fallback.specs.Heard.{heard}
 use Rattle.radio_fallback.proofs.HeardLemmas.{begins_heard, goes_on_heard}
 use Rattle.radio_fallback.proofs.CarryLemmas.{begins, as_many, goes_on, fewer_left, all_counted, has_room, nobody_is_next}
 use Rattle.radio_fallback.proofs.carrying.carry.Goals as goal

@@ -1,6 +1,5 @@
 use Rattle.std.proofs.Common.{ap, sym, ◌∙◌}
-use Rattle.std.specs.Option.{option_copied}
-use Rattle.radio_fallback.specs.Walk.{landing_here, landing_at, onward, stop_of, walk}
+use Rattle.radio_fallback.proofs.Words.{option_copied, landing_here, landing_at, onward, stop_of, walk}
 use Rattle.radio_fallback.proofs.WalkLaws.{landing_is}
 use Rattle.radio_fallback.proofs.walking.walk_from.Goals as goal
 use Rattle.radio_fallback.proofs.walking.walk_from.Goals.{in-Some, in-None}

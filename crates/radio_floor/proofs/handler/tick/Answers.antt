@@ -1,6 +1,5 @@
 use Rattle.std.proofs.Common.{subst}
-use Rattle.radio_parts_station.specs.World.{World}
-use Rattle.radio_core.specs.Represents.{Represents}
+use Rattle.radio_floor.proofs.Words.{World, Represents}
 use Rattle.radio_floor.proofs.handler.tick.Goals as goal
 
 pub returns : goal.returns

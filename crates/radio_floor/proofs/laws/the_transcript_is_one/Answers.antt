@@ -1,4 +1,4 @@
-use Rattle.radio_floor.specs.Transcript.{conduct}
+use Rattle.radio_floor.proofs.Words.{conduct}
 use Rattle.radio_script.proofs.LawLemmas.{one_transcript, goes_on_as_it_began}
 use Rattle.radio_floor.proofs.OneTranscript.{is_determined}
 use Rattle.radio_floor.proofs.laws.the_transcript_is_one.Goals as goal

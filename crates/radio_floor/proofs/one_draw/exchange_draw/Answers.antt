@@ -1,9 +1,5 @@
 use Rattle.std.proofs.Common.{◌≡◌, ℕ, false, List, ◌++◌, refl, ap, sym, subst, ◌∙◌, append-nil}
-use Rattle.radio_events.specs.declared.event.Event.TheVariants.{Draw}
-use Rattle.radio_core.specs.Represents.{core_steps}
-use Rattle.radio_session.specs.Conversation.{Conversation}
-use Rattle.radio_session.specs.Saying.{said}
-use Rattle.radio_session.specs.Exchanges.{nothing_exchanged, prefixed, ended_with, LeavesAfter}
+use Rattle.radio_floor.proofs.Words.{Draw, core_steps, Conversation, said, nothing_exchanged, prefixed, ended_with, LeavesAfter}
 use Rattle.radio_floor.proofs.AnsweredLemmas.{alone_on, alone_last}
 use Rattle.radio_floor.proofs.one_draw.exchange_draw.Goals as goal
 

@@ -1,13 +1,5 @@
 use Rattle.std.proofs.Common.{◌≡◌, ◌++◌, subst}
-use Rattle.std.proofs.lemmas.Result.{IfOk-weaker}
-use Rattle.radio_parts_station.specs.World.{World}
-use Rattle.radio_events.specs.declared.event.Event.TheVariants.{Arrive}
-use Rattle.radio_core.specs.Represents.{Represents}
-use Rattle.radio_parts.specs.Step.{reply_to, world_after}
-use Rattle.radio_events.specs.declared.reply.Reply.{Reply}
-use Rattle.radio_session.specs.Conversation.{asking}
-use Rattle.radio_session.specs.Saying.{said}
-use Rattle.radio_floor.specs.ScriptState.{taken_in}
+use Rattle.radio_floor.proofs.Words.{IfOk-weaker, World, Arrive, Represents, reply_to, world_after, Reply, asking, said, taken_in}
 use Rattle.radio_floor.proofs.script_server.arrive.Goals as goal
 
 pub returns : goal.returns

@@ -1,5 +1,4 @@
-use Rattle.radio_script.specs.Plays.{Plays, Writes}
-use Rattle.radio_floor.specs.Transcript.{PlaysScript}
+use Rattle.radio_floor.proofs.Words.{Plays, Writes, PlaysScript}
 use Rattle.radio_floor.proofs.ServerSimulation.{server_conduct, server_plays}
 use Rattle.radio_floor.proofs.Weakened.{known-weaker, writes-weaker}
 use Rattle.radio_floor.proofs.scripts.play.Goals as goal

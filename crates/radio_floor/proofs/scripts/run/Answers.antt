@@ -1,7 +1,5 @@
 use Rattle.std.proofs.Common.{ℕ, List, None, Some}
-use Rattle.std.proofs.lemmas.Result.{IfOk-weaker}
-use Rattle.radio_script.specs.Runs.{Runs}
-use Rattle.radio_floor.specs.Transcript.{IsTranscriptOf}
+use Rattle.radio_floor.proofs.Words.{IfOk-weaker, Runs, IsTranscriptOf}
 use Rattle.radio_floor.proofs.ServerSimulation.{server_conduct, server_runs}
 use Rattle.radio_floor.proofs.scripts.run.Goals as goal
 

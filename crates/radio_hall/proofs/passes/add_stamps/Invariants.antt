@@ -1,5 +1,5 @@
 use Rattle.std.proofs.Common.{◌≡◌, ◌++◌, take}
-use Rattle.radio_hall.specs.Settling.{stamps}
+use Rattle.radio_hall.proofs.Words.{stamps}
 use Rattle.radio_hall.proofs.passes.add_stamps.Given as goal
 
 abbrev pub invariant-loop-receipt : goal.invariant-loop-receipt

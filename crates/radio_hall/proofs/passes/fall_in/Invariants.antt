@@ -1,5 +1,5 @@
 use Rattle.std.proofs.Common.{ℕ, ◌<◌}
-use Rattle.radio_hall.specs.Settling.{Rises, serials_in}
+use Rattle.radio_hall.proofs.Words.{Rises, serials_in}
 use Rattle.radio_hall.proofs.passes.fall_in.Given as goal
 
 abbrev pub invariant-loop-list : goal.invariant-loop-list

@@ -1,5 +1,5 @@
 use Rattle.std.proofs.Common.{ℕ, drop}
-use Rattle.radio_hall.specs.Settling.{Falls, Rises, serials_in}
+use Rattle.radio_hall.proofs.Words.{Falls, Rises, serials_in}
 use Rattle.radio_hall.proofs.passes.fall_in_list.Given as goal
 
 abbrev pub invariant-loop-receipt : goal.invariant-loop-receipt

@@ -1,8 +1,5 @@
 use Rattle.std.proofs.Common.{ℕ, ◌<◌, List, subst, ◌∙◌}
-use Rattle.std.proofs.lemmas.List.Elements.{All-more}
-use Rattle.radio_book.specs.Receipts.{ReceiptOf}
-use Rattle.radio_merge.proofs.Wholes.{All-whole}
-use Rattle.radio_hall.specs.Settling.{Rises, serials_in}
+use Rattle.radio_hall.proofs.Words.{All-more, ReceiptOf, All-whole, Rises, serials_in}
 use Rattle.radio_hall.proofs.passes.find_fall.Goals as goal
 
 abbrev Rise : ℕ → List ReceiptOf → Type 0

@@ -1,8 +1,5 @@
 use Rattle.std.proofs.Common.{All, List, subst, ◌∙◌}
-use Rattle.std.proofs.lemmas.List.Elements.{All-more}
-use Rattle.radio_merge.proofs.Wholes.{All-whole}
-use Rattle.radio_book.specs.Receipts.{ReceiptOf}
-use Rattle.radio_hall.specs.Settling.{StandsIn}
+use Rattle.radio_hall.proofs.Words.{All-more, All-whole, ReceiptOf, StandsIn}
 use Rattle.radio_hall.proofs.passes.find_strange.Goals as goal
 
 pub loop-pass-preserved : goal.loop-pass-preserved

@@ -1,5 +1,5 @@
 use Rattle.std.proofs.Common.{take}
-use Rattle.radio_hall.specs.Settling.{AllStand}
+use Rattle.radio_hall.proofs.Words.{AllStand}
 use Rattle.radio_hall.proofs.passes.find_strange.Given as goal
 
 abbrev pub invariant-loop-pass : goal.invariant-loop-pass

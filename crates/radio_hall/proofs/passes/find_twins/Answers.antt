@@ -1,5 +1,5 @@
 use Rattle.std.proofs.Common.{get_or, ◌-◌, arith}
-use Rattle.radio_chronicle.specs.Stamps.{stamp}
+use Rattle.radio_hall.proofs.Words.{stamp}
 use Rattle.radio_hall.proofs.Settled.{counted_twice, neighbour}
 use Rattle.radio_hall.proofs.passes.find_twins.Goals as goal
 

@@ -1,5 +1,5 @@
 use Rattle.std.proofs.Common.{◌≢◌, ℕ, ◌+◌, ◌<◌, get_or}
-use Rattle.radio_chronicle.specs.Stamps.{stamp}
+use Rattle.radio_hall.proofs.Words.{stamp}
 use Rattle.radio_hall.proofs.passes.find_twins.Given as goal
 
 abbrev pub invariant-loop-i : goal.invariant-loop-i

@@ -1,6 +1,5 @@
 use Rattle.std.proofs.Common.{List, ap, ◌∙◌, ◌++◌}
-use Rattle.radio_book.specs.Receipts.{ReceiptOf}
-use Rattle.radio_hall.specs.Settling.{stamps}
+use Rattle.radio_hall.proofs.Words.{ReceiptOf, stamps}
 use Rattle.radio_hall.proofs.Settled.{stamps_more}
 use Rattle.radio_hall.proofs.passes.sorted_stamps.Goals as goal
 

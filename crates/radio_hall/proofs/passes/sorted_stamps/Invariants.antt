@@ -1,5 +1,5 @@
 use Rattle.std.proofs.Common.{◌≡◌, take}
-use Rattle.radio_hall.specs.Settling.{all_stamps}
+use Rattle.radio_hall.proofs.Words.{all_stamps}
 use Rattle.radio_hall.proofs.passes.sorted_stamps.Given as goal
 
 abbrev pub invariant-loop-pass : goal.invariant-loop-pass

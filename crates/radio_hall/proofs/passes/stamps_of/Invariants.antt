@@ -1,5 +1,5 @@
 use Rattle.std.proofs.Common.{◌≡◌, map, take}
-use Rattle.radio_hall.specs.Settling.{stamps}
+use Rattle.radio_hall.proofs.Words.{stamps}
 use Rattle.radio_hall.proofs.passes.stamps_of.Given as goal
 
 abbrev pub invariant-loop-pass : goal.invariant-loop-pass

@@ -1,7 +1,5 @@
 use Rattle.std.proofs.Common.{subst}
-use Rattle.std.proofs.lemmas.List.Elements.{All-more}
-use Rattle.radio_merge.proofs.Wholes.{All-whole}
-use Rattle.radio_hall.specs.Settling.{StandsIn}
+use Rattle.radio_hall.proofs.Words.{All-more, All-whole, StandsIn}
 use Rattle.radio_hall.proofs.passes.strange_in.Goals as goal
 
 pub loop-receipt-preserved : goal.loop-receipt-preserved

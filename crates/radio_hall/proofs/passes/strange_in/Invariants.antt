@@ -1,5 +1,5 @@
 use Rattle.std.proofs.Common.{take, All}
-use Rattle.radio_hall.specs.Settling.{StandsIn}
+use Rattle.radio_hall.proofs.Words.{StandsIn}
 use Rattle.radio_hall.proofs.passes.strange_in.Given as goal
 
 abbrev pub invariant-loop-receipt : goal.invariant-loop-receipt

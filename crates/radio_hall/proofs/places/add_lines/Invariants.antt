@@ -1,6 +1,5 @@
 use Rattle.std.proofs.Common.{◌≡◌, ◌++◌, drop}
-use Rattle.radio_chronicle.specs.Lines.{line_entry}
-use Rattle.radio_hall.specs.Settling.{places_of}
+use Rattle.radio_hall.proofs.Words.{line_entry, places_of}
 use Rattle.radio_hall.proofs.places.add_lines.Given as goal
 
 abbrev pub invariant-loop-before : goal.invariant-loop-before

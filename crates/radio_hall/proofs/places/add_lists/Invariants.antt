@@ -1,5 +1,5 @@
 use Rattle.std.proofs.Common.{◌≡◌, ◌++◌, drop}
-use Rattle.radio_hall.specs.Settling.{own_places}
+use Rattle.radio_hall.proofs.Words.{own_places}
 use Rattle.radio_hall.proofs.places.add_lists.Given as goal
 
 abbrev pub invariant-loop-before : goal.invariant-loop-before

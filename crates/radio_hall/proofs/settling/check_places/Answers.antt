@@ -1,5 +1,5 @@
 use Rattle.std.proofs.Common.{inl, subst}
-use Rattle.radio_hall.specs.Settling.{HasNoTwins, all_stamps}
+use Rattle.radio_hall.proofs.Words.{HasNoTwins, all_stamps}
 use Rattle.radio_hall.proofs.Twins.{each_once}
 use Rattle.radio_hall.proofs.settling.check_places.Goals as goal
 

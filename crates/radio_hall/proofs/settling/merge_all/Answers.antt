@@ -1,6 +1,5 @@
 use Rattle.std.proofs.Common.{List, Vec, Global, All, subst}
-use Rattle.radio_chronicle.specs.declared.stamp.Stamp.{Stamp}
-use Rattle.radio_merge.specs.Merged.{IsSubsequence}
+use Rattle.radio_hall.proofs.Words.{Stamp, IsSubsequence}
 use Rattle.radio_hall.proofs.Settled.{keeps_passes}
 use Rattle.radio_hall.proofs.settling.merge_all.Goals as goal
 

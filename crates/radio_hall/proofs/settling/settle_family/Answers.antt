@@ -1,4 +1,4 @@
-use Rattle.radio_parts_station.specs.World.{opening}
+use Rattle.radio_hall.proofs.Words.{opening}
 use Rattle.radio_hall.proofs.settling.settle_family.Goals as goal
 
 pub returns-in-Err-clause-fault : goal.returns-in-Err-clause-fault

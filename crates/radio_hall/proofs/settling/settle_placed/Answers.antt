@@ -1,8 +1,5 @@
 use Rattle.std.proofs.Common.{length, subst, sym, ap, ◌∙◌, arith}
-use Rattle.std.specs.List.Sorted.{IsPermutation}
-use Rattle.std.proofs.lemmas.List.Sorted.{IsPermutation-sym, length_permutation}
-use Rattle.radio_parts_station.specs.World.{opening}
-use Rattle.radio_hall.specs.Settling.{all_stamps}
+use Rattle.radio_hall.proofs.Words.{IsPermutation, IsPermutation-sym, length_permutation, opening, all_stamps}
 use Rattle.radio_hall.proofs.Settled.{counted, receipts_of_all}
 use Rattle.radio_hall.proofs.settling.settle_placed.Goals as goal
 

@@ -1,6 +1,6 @@
 use Rattle.std.proofs.Common.{[], ◌∷◌, ◌++◌, subst}
 use Rattle.radio_core.specs.Lagging.{NobodyLags}
-use Rattle.radio_parts_station.specs.World.{opening}
+use Rattle.radio_headline.proofs.Words.{opening}
 use Rattle.radio_laws.specs.Limits.{IsWithinLimits}
 use Rattle.radio_laws.specs.Users.{SittersAreLetIn}
 use Rattle.radio_headline.proofs.Logs.{after_joined}

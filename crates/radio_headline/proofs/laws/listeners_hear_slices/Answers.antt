@@ -1,13 +1,5 @@
 use Rattle.std.proofs.Common.{ℕ, List, [], sym, ap, subst, ◌∙◌}
-use Rattle.radio_settings_values.specs.declared.settings.Settings.{Settings}
-use Rattle.radio_access.specs.Lists.{Lists}
-use Rattle.radio_answers.specs.declared.web_answers.WebAnswers.{WebAnswers}
-use Rattle.radio_script.specs.declared.delivery.Delivery.{Delivery}
-use Rattle.radio_script.specs.Given.{given}
-use Rattle.radio_parts_station.specs.World.{opening}
-use Rattle.radio_floor.specs.ScriptState.{connection_of, opening_script}
-use Rattle.radio_headline.specs.Course.{Happening, log_on}
-use Rattle.radio_headline.specs.Scripts.{brought}
+use Rattle.radio_headline.proofs.Words.{Settings, Lists, WebAnswers, Delivery, given, opening, connection_of, opening_script, Happening, log_on, brought}
 use Rattle.radio_headline.proofs.Connections.{IsClosed}
 use Rattle.radio_headline.proofs.LabelFacts.{known_of}
 use Rattle.radio_headline.proofs.OfCourses.{course_hears}

@@ -1,4 +1,4 @@
-use Rattle.radio_script.specs.Script.{deliveries_from, fault_from, script_lines}
+use Rattle.radio_headline.proofs.Words.{deliveries_from, fault_from, script_lines}
 use Rattle.radio_headline.proofs.PlayedLemmas.{played}
 use Rattle.radio_headline.proofs.laws.played_scripts_hear_slices.Goals as goal
 

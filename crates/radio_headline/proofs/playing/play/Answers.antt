@@ -1,11 +1,7 @@
 use Rattle.std.proofs.Common.{◌≡◌, List, ℕ, None, subst}
-use Rattle.std.specs.Prelude.{Ok, Result}
-use Rattle.radio_script.specs.declared.faults.PlayFault.{PlayFault}
+use Rattle.radio_headline.proofs.Words.{Ok, Result, PlayFault, deliveries_from, script_lines, PlaysScript, HearsSlices}
 use Rattle.radio_script.specs.Plays.{Writes}
-use Rattle.radio_script.specs.Script.{deliveries_from, script_lines}
-use Rattle.radio_floor.specs.Transcript.{PlaysScript}
 use Rattle.radio_floor.proofs.Weakened.{known-weaker, writes-weaker}
-use Rattle.radio_headline.specs.Scripts.{HearsSlices}
 use Rattle.radio_headline.proofs.playing.play.Goals as goal
 
 pub returns-clause-hears : goal.returns-clause-hears

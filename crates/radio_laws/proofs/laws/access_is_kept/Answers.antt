@@ -1,7 +1,6 @@
-use Rattle.radio_core.specs.Run.{run_after}
+use Rattle.radio_laws.proofs.Words.{run_after, sound_run}
 use Rattle.radio_laws.proofs.Seats.ListsLemmas.{lists_run}
 use Rattle.radio_laws.proofs.Seats.LimitLemmas.{within_run}
-use Rattle.radio_core.proofs.Sound.SoundRuns.{sound_run}
 use Rattle.radio_laws.proofs.Seats.AccessLemmas.{access_holds}
 use Rattle.radio_laws.proofs.laws.access_is_kept.Goals as goal
 

@@ -1,5 +1,4 @@
-use Rattle.radio_core.specs.Run.{run_after}
-use Rattle.radio_core.proofs.Sound.SoundRuns.{sound_run}
+use Rattle.radio_laws.proofs.Words.{run_after, sound_run}
 use Rattle.radio_laws.proofs.Commands.CommandLaws.{only_who_may, commands_are_kept, killed_hear_nothing}
 use Rattle.radio_laws.proofs.Commands.CommandService.{who_may_is_served}
 use Rattle.radio_laws.proofs.Ends.FallbackLemmas.{fallbacks_stay}

@@ -1,4 +1,4 @@
-use Rattle.radio_core.specs.Run.{run_after}
+use Rattle.radio_laws.proofs.Words.{run_after}
 use Rattle.radio_laws.proofs.Denials.DeniedLemmas.{policy_denies}
 use Rattle.radio_laws.proofs.Denials.DenialLemmas.{denials_hold, addresses_hold, only_sources_feed, known_mounts}
 use Rattle.radio_laws.proofs.Denials.StopLemmas.{stopped_in_order}

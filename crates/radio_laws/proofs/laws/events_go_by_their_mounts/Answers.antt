@@ -1,5 +1,4 @@
-use Rattle.radio_core.specs.Run.{run_after}
-use Rattle.radio_core.proofs.Sound.SoundRuns.{sound_run}
+use Rattle.radio_laws.proofs.Words.{run_after, sound_run}
 use Rattle.radio_laws.proofs.Locality.LocalityLemmas.{answers_alike}
 use Rattle.radio_laws.proofs.Locality.LeftAlone.{leaves_alone}
 use Rattle.radio_laws.proofs.laws.events_go_by_their_mounts.Goals as goal

@@ -1,5 +1,4 @@
-use Rattle.radio_core.specs.Run.{run_after}
-use Rattle.radio_core.proofs.Sound.SoundRuns.{sound_run}
+use Rattle.radio_laws.proofs.Words.{run_after, sound_run}
 use Rattle.radio_laws.proofs.Seats.LastMountLemmas.{last_where_he_sits, finished_where_he_sat, ended_by_clock, rows_stay}
 use Rattle.radio_laws.proofs.laws.last_mounts_stay.Goals as goal
 

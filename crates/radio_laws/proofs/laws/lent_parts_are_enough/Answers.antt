@@ -1,7 +1,5 @@
 use Rattle.std.proofs.Common.{◌∙◌}
-use Rattle.radio_core.proofs.Kept.StepLemmas.{replies_alike}
-use Rattle.radio_parts.proofs.PlannedLemmas.{told_by_plan}
-use Rattle.radio_parts.specs.ControlSteps.{control_after}
+use Rattle.radio_laws.proofs.Words.{replies_alike, told_by_plan, control_after}
 use Rattle.radio_laws.proofs.Locality.LeftAlone.{control_alone}
 use Rattle.radio_laws.proofs.Locality.LentPartLemmas.{lent_agree, core_after, core_can, core_ordered}
 use Rattle.radio_laws.proofs.Locality.LocalityLemmas.{answers_alike, controls_alike, steps_alike}

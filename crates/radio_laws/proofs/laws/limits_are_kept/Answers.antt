@@ -1,4 +1,4 @@
-use Rattle.radio_core.specs.Run.{run_after}
+use Rattle.radio_laws.proofs.Words.{run_after}
 use Rattle.radio_laws.proofs.Denials.LimitDenials.{limits_deny, limits_admit}
 use Rattle.radio_laws.proofs.Seats.LimitLemmas.{limits_run}
 use Rattle.radio_laws.proofs.laws.limits_are_kept.Goals as goal

@@ -1,5 +1,4 @@
-use Rattle.radio_core.specs.Run.{run_after}
-use Rattle.radio_core.proofs.Sound.SoundRuns.{sound_run}
+use Rattle.radio_laws.proofs.Words.{run_after, sound_run}
 use Rattle.radio_laws.proofs.Seats.AccessLemmas.{admission_holds}
 use Rattle.radio_laws.proofs.laws.listeners_begin_at_a_block.Goals as goal
 

@@ -1,4 +1,4 @@
-use Rattle.radio_core.specs.Run.{run_after}
+use Rattle.radio_laws.proofs.Words.{run_after}
 use Rattle.radio_laws.proofs.Seats.OnDemandLemmas.{waits_on_demand, wanted_are_sat_at}
 use Rattle.radio_laws.proofs.laws.mounts_wait_on_demand.Goals as goal
 

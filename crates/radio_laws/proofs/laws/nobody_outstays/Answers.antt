@@ -1,5 +1,4 @@
-use Rattle.radio_core.specs.Run.{run_after}
-use Rattle.radio_core.proofs.Sound.SoundRuns.{sound_run}
+use Rattle.radio_laws.proofs.Words.{run_after, sound_run}
 use Rattle.radio_laws.proofs.Seats.LimitLemmas.{within_run}
 use Rattle.radio_laws.proofs.Seats.ListsLemmas.{sitters_run}
 use Rattle.radio_laws.proofs.Ends.TickEnds.{nobody_outstays}

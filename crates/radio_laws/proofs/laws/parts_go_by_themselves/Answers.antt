@@ -1,5 +1,4 @@
-use Rattle.radio_core.specs.Run.{run_after}
-use Rattle.radio_core.proofs.Sound.SoundRuns.{sound_run}
+use Rattle.radio_laws.proofs.Words.{run_after, sound_run}
 use Rattle.radio_laws.proofs.Locality.PartLemmas.{parts_draw, parts_receive, parts_titled}
 use Rattle.radio_laws.proofs.laws.parts_go_by_themselves.Goals as goal
 

@@ -1,4 +1,4 @@
-use Rattle.radio_core.specs.Run.{run_after}
+use Rattle.radio_laws.proofs.Words.{run_after}
 use Rattle.radio_laws.proofs.Listings.ListingLaws.{only_who_may_is_shown, who_may_is_shown}
 use Rattle.radio_laws.proofs.Listings.SightLemmas.{hidden_are_left_out, hidden_are_not_told_on_the_web, sight_is_kept}
 use Rattle.radio_laws.proofs.Listings.WebLaws.{who_visits_is_shown, nobody_feeds_a_path}

@@ -1,5 +1,4 @@
-use Rattle.radio_core.specs.Run.{run_after}
-use Rattle.radio_core.proofs.Sound.SoundRuns.{sound_run}
+use Rattle.radio_laws.proofs.Words.{run_after, sound_run}
 use Rattle.radio_laws.proofs.Seats.MountLemmas.{mounts_kept}
 use Rattle.radio_laws.proofs.Streams.StretchLemmas.{stretches_cut, stretches_hold}
 use Rattle.radio_laws.proofs.laws.stretches_are_whole.Goals as goal

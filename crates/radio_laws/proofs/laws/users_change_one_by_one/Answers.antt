@@ -1,5 +1,4 @@
-use Rattle.radio_core.specs.Run.{run_after}
-use Rattle.radio_core.proofs.Sound.SoundRuns.{sound_run}
+use Rattle.radio_laws.proofs.Words.{run_after, sound_run}
 use Rattle.radio_laws.proofs.Seats.ListsLemmas.{sitters_run}
 use Rattle.radio_laws.proofs.Commands.UserChanges.{users_step}
 use Rattle.radio_laws.proofs.laws.users_change_one_by_one.Goals as goal

@@ -1,5 +1,4 @@
-use Rattle.radio_core.specs.Run.{run_after}
-use Rattle.radio_core.proofs.Sound.SoundRuns.{sound_run}
+use Rattle.radio_laws.proofs.Words.{run_after, sound_run}
 use Rattle.radio_laws.proofs.Ends.GoneLemmas.{has_left, strays, stays_gone}
 use Rattle.radio_laws.proofs.laws.who_left_is_gone.Goals as goal
 

@@ -1,5 +1,4 @@
-use Rattle.radio_core.specs.Run.{run_after}
-use Rattle.radio_core.proofs.Sound.SoundRuns.{sound_run}
+use Rattle.radio_laws.proofs.Words.{run_after, sound_run}
 use Rattle.radio_laws.proofs.Denials.ServiceLemmas.{service_holds, changes_nothing}
 use Rattle.radio_laws.proofs.laws.whoever_may_is_served.Goals as goal
 

@@ -1,6 +1,5 @@
 use Rattle.std.proofs.Common.{◌∙◌, sym, arith}
-use Rattle.std.proofs.lemmas.List.{take_all}
-use Rattle.radio_masters.specs.Listed.{most_listed}
+use Rattle.radio_masters.proofs.Words.{take_all, most_listed}
 use Rattle.radio_masters.proofs.Popped.{front_popped}
 use Rattle.radio_masters.proofs.listed.keep_first.Goals as goal
 

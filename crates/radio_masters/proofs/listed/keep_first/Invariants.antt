@@ -1,5 +1,5 @@
 use Rattle.std.proofs.Common.{◌≡◌, length, take}
-use Rattle.radio_masters.specs.Listed.{most_listed}
+use Rattle.radio_masters.proofs.Words.{most_listed}
 use Rattle.radio_masters.proofs.listed.keep_first.Given as goal
 
 abbrev pub invariant-others : goal.invariant-others

@@ -1,11 +1,8 @@
 use Rattle.std.proofs.Common.{Option, [], subst, sym}
-use Rattle.radio_events.specs.declared.event.Event.{Event}
+use Rattle.radio_masters.proofs.Words.{Event, PullTurn, Comes, AsksAtMostIf, AsksIf}
 use Rattle.radio_masters.proofs.AtMostEntries.{asked_at_most}
 use Rattle.radio_masters.proofs.PullEntries.{asked_comes}
-use Rattle.radio_masters.specs.declared.mount_pull.PullTurn.{PullTurn}
-use Rattle.radio_masters.specs.Pulls.{Comes}
 use Rattle.radio_masters.proofs.mount_pull.probe.Goals as goal
-use Rattle.radio_relay.specs.Course.{AsksAtMostIf, AsksIf}
 
 pub returns-in-Ok-clause-comes : goal.returns-in-Ok-clause-comes
 returns-in-Ok-clause-comes g c =

@@ -1,7 +1,6 @@
 use Rattle.std.proofs.Common.{List, Vec, Global, refl, subst}
 use Rattle.std.proofs.lemmas.List.Elements.{All-more}
-use Rattle.radio_chronicle.specs.declared.stamp.Stamp.{Stamp}
-use Rattle.radio_merge.specs.Merged.{IsSubsequence}
+use Rattle.radio_merge.proofs.Words.{Stamp, IsSubsequence}
 use Rattle.radio_merge.proofs.Wholes.{All-whole}
 use Rattle.radio_merge.proofs.passes.are_in_order.Goals as goal
 

@@ -1,6 +1,5 @@
 use Rattle.std.proofs.Common.{take}
-use Rattle.std.specs.Prelude.{All}
-use Rattle.radio_merge.specs.Merged.{IsSubsequence}
+use Rattle.radio_merge.proofs.Words.{All, IsSubsequence}
 use Rattle.radio_merge.proofs.passes.are_in_order.Given as goal
 
 abbrev pub invariant-loop-pass : goal.invariant-loop-pass

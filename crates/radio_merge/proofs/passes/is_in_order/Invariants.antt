@@ -1,5 +1,5 @@
 use Rattle.std.proofs.Common.{drop}
-use Rattle.radio_merge.specs.Merged.{IsSubsequence}
+use Rattle.radio_merge.proofs.Words.{IsSubsequence}
 use Rattle.radio_merge.proofs.passes.is_in_order.Given as goal
 
 abbrev pub invariant-order : goal.invariant-order

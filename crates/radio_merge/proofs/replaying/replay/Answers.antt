@@ -1,12 +1,5 @@
 use Rattle.std.proofs.Common.{◌∙◌, List, get_or, sym, subst}
-use Rattle.std.proofs.lemmas.List.{get_or_default, take_all}
-use Rattle.std.proofs.lemmas.Result.{IfOk-weaker}
-use Rattle.radio_parts_station.specs.World.{World, opening}
-use Rattle.radio_merge.specs.declared.family.Family.{Family}
-use Rattle.radio_chronicle.specs.declared.stamp.Stamp.{Stamp}
-use Rattle.radio_chronicle.specs.Stamps.{stamp}
-use Rattle.radio_merge.specs.Merged.{IsMerge}
-use Rattle.radio_merge.specs.Replays.{IsSoFar}
+use Rattle.radio_merge.proofs.Words.{get_or_default, take_all, IfOk-weaker, World, opening, Family, Stamp, stamp, IsMerge, IsSoFar}
 use Rattle.radio_merge.proofs.Steppings.{goes_on}
 use Rattle.radio_merge.proofs.replaying.replay.Goals as goal
 

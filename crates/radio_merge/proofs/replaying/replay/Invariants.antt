@@ -1,6 +1,5 @@
 use Rattle.std.proofs.Common.{◌≡◌, take, []}
-use Rattle.radio_parts_station.specs.World.{World}
-use Rattle.radio_merge.specs.Replays.{IsSoFar}
+use Rattle.radio_merge.proofs.Words.{World, IsSoFar}
 use Rattle.radio_merge.proofs.replaying.replay.Given as goal
 
 abbrev pub invariant-stamps : goal.invariant-stamps

@@ -1,6 +1,5 @@
 use Rattle.std.proofs.Common.{◌≡◌, ℕ, List, length}
-use Rattle.radio_attachments.specs.declared.attachment.Attachment.{Attachment}
-use Rattle.radio_parts_mount.specs.ByLists.{IsList, without_all}
+use Rattle.radio_parts_mount.proofs.Words.{Attachment, IsList, without_all}
 use Rattle.radio_parts_mount.proofs.noting.note_all_detached.Given as goal
 
 -- the list is of those who are left, and once the rest are detached too, all are

@@ -1,7 +1,5 @@
 use Rattle.std.proofs.Common.{ℕ, List, Option}
-use Rattle.radio_attachments.specs.declared.attachment.Attachment.{Attachment}
-use Rattle.radio_parts_mount.specs.Sessions.{Session}
-use Rattle.radio_parts_mount.specs.ByLists.{IsList}
+use Rattle.radio_parts_mount.proofs.Words.{Attachment, Session, IsList}
 use Rattle.radio_parts_mount.proofs.noting.note_lagging.Given as goal
 
 -- what the list was of it still is of

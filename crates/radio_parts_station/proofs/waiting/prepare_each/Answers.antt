@@ -1,8 +1,6 @@
 use Rattle.std.proofs.Common.{◌≡◌, ◌⊎◌, inl, inr, true, ℕ, ◌+◌, List, [], ◌∷◌, drop, ap, sym, subst, refl, ◌∙◌}
 use Rattle.std.proofs.lemmas.List.{drop_all, drop_more}
-use Rattle.radio_settings_values.specs.declared.settings.RelaySetting.{RelaySetting}
-use Rattle.radio_seats_rows.specs.SeatTable.{is_prepared}
-use Rattle.radio_parts_station.specs.Waiting.{feeds_on_demand}
+use Rattle.radio_parts_station.proofs.Words.{RelaySetting, is_prepared, feeds_on_demand}
 use Rattle.radio_parts_station.proofs.WaitingLemmas.{first_or_other}
 use Rattle.radio_parts_station.proofs.waiting.prepare_each.Goals as goal
 

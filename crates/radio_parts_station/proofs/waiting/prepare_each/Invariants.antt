@@ -1,6 +1,5 @@
 use Rattle.std.proofs.Common.{◌≡◌, ◌⊎◌, true, drop, ℕ, List}
-use Rattle.radio_seats_rows.specs.SeatTable.{is_prepared}
-use Rattle.radio_parts_station.specs.Waiting.{feeds_on_demand}
+use Rattle.radio_parts_station.proofs.Words.{is_prepared, feeds_on_demand}
 use Rattle.radio_parts_station.proofs.waiting.prepare_each.Given as goal
 
 -- what was prepared is, and each mount that these relays feed on demand is, or one does that is left

@@ -1,11 +1,5 @@
 use Rattle.std.proofs.Common.{◌==◌, ◌||◌, List, ap, sym, ◌∙◌}
-use Rattle.std.specs.Prelude.{map}
-use Rattle.radio_attachments.specs.declared.attachment.Attachment.{Attachment}
-use Rattle.radio_seats.proofs.RowLemmas.{same_table}
-use Rattle.radio_policy.specs.declared.rule.Rule.TheVariants.{Lagged}
-use Rattle.radio_seats_rows.specs.SeatTable.{SeatTable}
-use Rattle.radio_parts_table.specs.Losses.{ended_if_lost}
-use Rattle.radio_parts_mount.specs.Attached.{is_among}
+use Rattle.radio_parts_table.proofs.Words.{map, Attachment, same_table, Lagged, SeatTable, ended_if_lost, is_among}
 use Rattle.radio_parts_table.proofs.LossLemmas.{ends_more, ends_nobody}
 use Rattle.radio_parts_table.proofs.listeners.end_each.Goals as goal
 

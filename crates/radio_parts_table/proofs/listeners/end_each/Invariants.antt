@@ -1,8 +1,5 @@
 use Rattle.std.proofs.Common.{◌≡◌, length}
-use Rattle.std.specs.Prelude.{map}
-use Rattle.radio_policy.specs.declared.rule.Rule.TheVariants.{Lagged}
-use Rattle.radio_parts_table.specs.Losses.{ended_if_lost}
-use Rattle.radio_parts_mount.specs.Attached.{is_among}
+use Rattle.radio_parts_table.proofs.Words.{map, Lagged, ended_if_lost, is_among}
 use Rattle.radio_parts_table.proofs.listeners.end_each.Given as goal
 
 -- once the rest have lost their seats too, all have

@@ -1,6 +1,5 @@
 use Rattle.std.proofs.Common.{List, ap, ◌∙◌}
-use Rattle.radio_policy.specs.declared.rule.Rule.TheVariants.{Lagged}
-use Rattle.radio_seats_rows.specs.declared.seat.Listener.{Listener}
+use Rattle.radio_parts_table.proofs.Words.{Lagged, Listener}
 use Rattle.radio_parts_table.proofs.LossLemmas.{ends_one}
 use Rattle.radio_parts_table.proofs.listeners.end_one.Goals as goal
 

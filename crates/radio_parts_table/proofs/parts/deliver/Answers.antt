@@ -1,8 +1,8 @@
 use Rattle.std.proofs.Common.{ℕ}
 use Rattle.radio_parts_table.proofs.DeliveryLemmas.{Told, was_delivered, is_to_none}
-use Rattle.radio_parts_table.specs.declared.changes.Delivers.{Delivers}
+use Rattle.radio_parts_table.proofs.Words.{Delivers}
 use Rattle.radio_parts_table.proofs.parts.deliver.Goals as goal
-use Rattle.radio_parts_table.proofs.parts.deliver.Goals.{In-Some, In-None}
+use Rattle.radio_parts_table.proofs.parts.deliver.Goals.{In-Some}
 
 abbrev asked : ℕ → ℕ → Delivers
 asked moment limit = record { moment = moment; limit = limit }

@@ -1,9 +1,8 @@
 use Rattle.std.proofs.Common.{◌≡◌, ◌<◌, ◌≤◌, ◌+◌, ℕ, Bool, true, false, List, length, nat_lt, refl, ap, arith}
 use Rattle.std.proofs.lemmas.Bool.Decides.{nat_tests}
-use Rattle.std.proofs.lemmas.List.{length-take}
+use Rattle.radio_pullers.proofs.Words.{length-take, IsChosen}
 use Rattle.radio_masters.specs.declared.turns.WaitingRelay.{WaitingRelay}
 use Rattle.radio_tries.specs.Tries.{free_places}
-use Rattle.radio_pullers.specs.Running.{IsChosen}
 use Rattle.radio_pullers.proofs.laws.relays_fit_the_sources.Goals as goal
 
 -- no more begin than there are free places

@@ -1,7 +1,5 @@
 use Rattle.std.proofs.Common.{Option, refl, subst, sym}
-use Rattle.radio_events.specs.declared.event.Event.{Event}
-use Rattle.radio_relay.specs.Pulling.{running_pull}
-use Rattle.radio_relay.specs.Course.{AsksIf}
+use Rattle.radio_relay.proofs.Words.{Event, running_pull, AsksIf}
 use Rattle.radio_relay.proofs.conversing.ask.Goals as goal
 
 pub returns-in-None-clause-ok : goal.returns-in-None-clause-ok

@@ -1,11 +1,5 @@
 use Rattle.std.proofs.Common.{◌≡◌, inl, ℕ, List, [], None, Some, Option, refl, ap, arith, subst, sym, ◌∙◌}
-use Rattle.std.proofs.lemmas.List.{nil_from_length}
-use Rattle.std.specs.Vec.Iter.{into_iter_items}
-use Rattle.radio_events.specs.declared.event.Event.{Event}
-use Rattle.radio_relay.specs.declared.items.PullItem.{PullItem}
-use Rattle.radio_relay.specs.Pulling.{Pulling, event_for, running_pull}
-use Rattle.radio_events.specs.declared.state.State.TheVariants.{Running}
-use Rattle.radio_relay.specs.Course.{BringsItems, BringsAtMost, Onwards}
+use Rattle.radio_relay.proofs.Words.{nil_from_length, into_iter_items, Event, PullItem, Pulling, event_for, running_pull, Running, BringsItems, BringsAtMost, Onwards}
 use Rattle.radio_relay.proofs.AtMostLemmas.{on_err, one_brought, then_brings, then_brought}
 use Rattle.radio_relay.proofs.conversing.bring.Goals as goal
 

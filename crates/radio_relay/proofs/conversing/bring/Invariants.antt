@@ -1,7 +1,5 @@
 use Rattle.std.proofs.Common.{◌≡◌, ℕ, Option}
-use Rattle.std.specs.Vec.Iter.{into_iter_items}
-use Rattle.radio_relay.specs.Pulling.{NumberedState}
-use Rattle.radio_relay.specs.Course.{BringsItems, BringsAtMost}
+use Rattle.radio_relay.proofs.Words.{into_iter_items, NumberedState, BringsItems, BringsAtMost}
 use Rattle.radio_relay.proofs.conversing.bring.Given as goal
 
 -- whatever the remaining items yield from here, all items yield from the start

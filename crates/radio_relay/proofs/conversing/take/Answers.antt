@@ -1,12 +1,7 @@
 use Rattle.std.proofs.Common.{◌≡◌, ◌≢◌, ap, subst}
 use Rattle.std.proofs.lemmas.Result.{IfOk-weaker}
-use Rattle.radio_relay.specs.declared.fault.PullFault.TheVariants.{OutOfMemory}
-use Rattle.radio_relay.specs.declared.pull.PullStage.{PullStage}
-use Rattle.radio_relay.specs.Pulled.{stops}
-use Rattle.radio_events.specs.declared.state.State.TheVariants.{Shut}
+use Rattle.radio_relay.proofs.Words.{OutOfMemory, PullStage, stops, Shut, Pulling, GoesDown, Takes}
 use Rattle.radio_events.specs.declared.state.Ending.TheVariants.{BadPull}
-use Rattle.radio_relay.specs.Pulling.{Pulling}
-use Rattle.radio_relay.specs.Course.{GoesDown, Takes}
 use Rattle.radio_relay.proofs.conversing.take.Goals as goal
 
 pub returns-in-Err-clause-ok : goal.returns-in-Err-clause-ok

@@ -1,8 +1,5 @@
 use Rattle.std.proofs.Common.{◌≡◌, ℕ, List, [], ◌∷◌, ◌++◌, map, ap, sym, ◌∙◌, append_assoc, append-nil, arith}
-use Rattle.std.proofs.lemmas.List.{nil_from_length}
-use Rattle.std.specs.Vec.Iter.{into_iter_items}
-use Rattle.radio_relay.specs.declared.items.PullItem.{PullItem}
-use Rattle.radio_relay.specs.declared.items.PullItem.TheVariants.{Sound}
+use Rattle.radio_relay.proofs.Words.{nil_from_length, into_iter_items, PullItem, Sound}
 use Rattle.radio_relay.proofs.items.push_blocks.Goals as goal
 
 pub loop-block-init : goal.loop-block-init

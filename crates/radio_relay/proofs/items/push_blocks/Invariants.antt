@@ -1,6 +1,5 @@
 use Rattle.std.proofs.Common.{◌≡◌, ◌++◌, map}
-use Rattle.std.specs.Vec.Iter.{into_iter_items}
-use Rattle.radio_relay.specs.declared.items.PullItem.TheVariants.{Sound}
+use Rattle.radio_relay.proofs.Words.{into_iter_items, Sound}
 use Rattle.radio_relay.proofs.items.push_blocks.Given as goal
 
 -- the items so far and those of the blocks that are left are those of all

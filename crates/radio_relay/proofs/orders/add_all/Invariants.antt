@@ -1,5 +1,5 @@
 use Rattle.std.proofs.Common.{◌≡◌, drop}
-use Rattle.radio_relay.specs.Orders.{with_other_names}
+use Rattle.radio_relay.proofs.Words.{with_other_names}
 use Rattle.radio_relay.proofs.orders.add_all.Given as goal
 
 -- with the names that are left they are all

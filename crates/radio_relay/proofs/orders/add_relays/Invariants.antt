@@ -1,5 +1,5 @@
 use Rattle.std.proofs.Common.{◌≡◌, drop}
-use Rattle.radio_relay.specs.Orders.{with_other_names, relayed_mounts}
+use Rattle.radio_relay.proofs.Words.{with_other_names, relayed_mounts}
 use Rattle.radio_relay.proofs.orders.add_relays.Given as goal
 
 -- with the mounts of the relays that are left they are all

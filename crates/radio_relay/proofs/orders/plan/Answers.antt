@@ -1,7 +1,6 @@
 use Rattle.std.proofs.Common.{List, ◌++◌, ap, sym, ◌∙◌}
-use Rattle.std.specs.List.{flat_map}
+use Rattle.radio_relay.proofs.Words.{flat_map, orders, order_at}
 use Rattle.radio_relay.specs.declared.orders.RelayOrder.{RelayOrder}
-use Rattle.radio_relay.specs.Orders.{orders, order_at}
 use Rattle.radio_relay.proofs.orders.plan.Goals as goal
 
 pub mounts-init : goal.mounts-init

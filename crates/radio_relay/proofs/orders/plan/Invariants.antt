@@ -1,6 +1,5 @@
 use Rattle.std.proofs.Common.{◌≡◌, ◌++◌, length}
-use Rattle.std.specs.List.{flat_map}
-use Rattle.radio_relay.specs.Orders.{orders, order_at}
+use Rattle.radio_relay.proofs.Words.{flat_map, orders, order_at}
 use Rattle.radio_relay.proofs.orders.plan.Given as goal
 
 -- the orders so far and those for the mounts that are left are all

@@ -1,10 +1,6 @@
 use Rattle.std.proofs.Common.{◌≡◌, ℕ, Ok, List, ◌++◌, length, take, ap, sym, ◌∙◌, subst, arith}
-use Rattle.std.proofs.lemmas.List.{take_at}
-use Rattle.radio_heads.specs.declared.outcome.Progress.{Progress}
-use Rattle.radio_heads.specs.declared.outcome.Progress.TheVariants.{More}
+use Rattle.radio_relay.proofs.Words.{take_at, Progress, More, ResponseParts, ShowsResponse, IsReading, IsUnfinished}
 use Rattle.radio_heads.specs.Search.{HasNoEnd}
-use Rattle.radio_heads.specs.Response.{ResponseParts, ShowsResponse}
-use Rattle.radio_heads.specs.Reading.{IsReading, IsUnfinished}
 use Rattle.radio_relay.proofs.PullLemmas.{answered-more}
 use Rattle.radio_relay.proofs.pull.read_head.Goals as goal
 

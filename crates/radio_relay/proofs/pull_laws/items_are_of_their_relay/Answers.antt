@@ -1,8 +1,7 @@
 use Rattle.std.proofs.Common.{◌≡◌, ℕ, List, Option, None, Some, refl}
 use Rattle.radio_values.specs.declared.field.Shown.{Shown}
 use Rattle.radio_events.specs.declared.event.Event.TheVariants.{RelayUp}
-use Rattle.radio_relay.specs.declared.items.PullItem.TheVariants.{Up}
-use Rattle.radio_relay.specs.Pulling.{event_for}
+use Rattle.radio_relay.proofs.Words.{Up, event_for}
 use Rattle.radio_relay.proofs.pull_laws.items_are_of_their_relay.Goals as goal
 
 head_at : (mount : List ℕ) (number : Option ℕ) (shown : Shown) → event_for mount number (Up shown) ≡ Some (RelayUp mount shown)

@@ -1,6 +1,5 @@
 use Rattle.std.proofs.Common.{List, ℕ, ◌++◌, ap, ◌∙◌, refl}
-use Rattle.percent_encoding.specs.declared.ascii_set.AsciiSet.{AsciiSet}
-use Rattle.percent_encoding.specs.Percent.{percent_encode}
+use Rattle.radio_relay.proofs.Words.{AsciiSet, percent_encode}
 use Rattle.radio_relay.proofs.RequestLemmas.{escaped_is_path}
 use Rattle.radio_relay.proofs.request.path_text.Goals as goal
 

@@ -1,6 +1,6 @@
 use Rattle.std.proofs.Common.{ℕ, List, map, ap, arith, sym, ◌∙◌}
 use Rattle.radio_texts.specs.Lines.{without_return}
-use Rattle.radio_relay.specs.StreamList.{names_listed, with_names, stream_list_lines}
+use Rattle.radio_relay.proofs.Words.{names_listed, with_names, stream_list_lines}
 use Rattle.radio_relay.proofs.stream_list.read_stream_list.Goals as goal
 
 pub lines-init : goal.lines-init

@@ -1,5 +1,5 @@
 use Rattle.std.proofs.Common.{◌≡◌, length}
-use Rattle.radio_relay.specs.StreamList.{names_listed, with_names, stream_list_lines}
+use Rattle.radio_relay.proofs.Words.{names_listed, with_names, stream_list_lines}
 use Rattle.radio_relay.proofs.stream_list.read_stream_list.Given as goal
 
 -- with the lines that are left they are all names

@@ -1,5 +1,5 @@
 use Rattle.std.proofs.Common.{arith}
-use Rattle.radio_texts.proofs.NumbersLemmas.{number_of-large}
+use Rattle.radio_script.proofs.Words.{number_of-large}
 use Rattle.radio_script.proofs.delivery.read_decimal.Goals as goal
 
 pub returns-then-number-from : goal.returns-then-number-from

@@ -1,6 +1,5 @@
 use Rattle.std.proofs.Common.{◌≡◌, ◌≤◌, drop}
-use Rattle.std.specs.Str.Parse.{digits_value, digits_value_after}
-use Rattle.radio_texts.proofs.NumbersLemmas.{all_digits}
+use Rattle.radio_script.proofs.Words.{digits_value, digits_value_after, all_digits}
 use Rattle.radio_script.proofs.delivery.read_decimal.Given as goal
 
 -- what is read, and the digits still to be read, make the number

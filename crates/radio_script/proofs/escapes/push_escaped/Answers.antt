@@ -1,6 +1,5 @@
 use Rattle.std.proofs.Common.{arith, rules}
-use Rattle.std.proofs.lemmas.Grind.{common_steps}
-use Rattle.radio_script.specs.Escapes.{escaped}
+use Rattle.radio_script.proofs.Words.{common_steps, escaped}
 use Rattle.radio_script.proofs.escapes.push_escaped.Goals as goal
 
 pub loop-b-init : goal.loop-b-init

@@ -1,6 +1,5 @@
 use Rattle.std.proofs.Common.{◌≡◌, ◌++◌, take}
-use Rattle.std.specs.List.{flat_map}
-use Rattle.radio_script.specs.Escapes.{escape_of}
+use Rattle.radio_script.proofs.Words.{flat_map, escape_of}
 use Rattle.radio_script.proofs.escapes.push_escaped.Given as goal
 
 abbrev pub invariant-loop-b : goal.invariant-loop-b

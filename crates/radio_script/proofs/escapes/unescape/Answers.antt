@@ -1,6 +1,5 @@
 use Rattle.std.proofs.Common.{arith, rules, refl, ◌∙◌, get_or}
-use Rattle.std.proofs.lemmas.Grind.{common_steps}
-use Rattle.radio_script.specs.Escapes.{step_at, unescaped}
+use Rattle.radio_script.proofs.Words.{common_steps, step_at, unescaped}
 use Rattle.radio_script.proofs.EscapeLemmas.{taken}
 use Rattle.radio_script.proofs.escapes.unescape.Goals as goal
 

@@ -1,7 +1,5 @@
 use Rattle.std.proofs.Common.{◌≡◌, ◌++◌, drop}
-use Rattle.std.specs.Option.{option_map}
-use Rattle.radio_script.specs.declared.escapes.EscapePlace.TheVariants.{Between}
-use Rattle.radio_script.specs.Escapes.{unescaped_from}
+use Rattle.radio_script.proofs.Words.{option_map, Between, unescaped_from}
 use Rattle.radio_script.proofs.escapes.unescape.Given as goal
 
 abbrev pub invariant-loop-b : goal.invariant-loop-b

@@ -1,5 +1,5 @@
 use Rattle.std.proofs.Common.{Err}
-use Rattle.radio_script.specs.Answers.{AnswersLine}
+use Rattle.radio_script.proofs.Words.{AnswersLine}
 use Rattle.radio_script.proofs.LinePlays.{writes_nothing, unwritten, written_whole, written_in_part}
 use Rattle.radio_script.proofs.playing.answer_line.Goals as goal
 

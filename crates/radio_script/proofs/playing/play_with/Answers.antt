@@ -1,5 +1,5 @@
 use Rattle.std.proofs.Common.{Ok, Err, refl, arith}
-use Rattle.radio_script.specs.declared.faults.PlayFault.TheVariants.{Write}
+use Rattle.radio_script.proofs.Words.{Write}
 use Rattle.radio_script.proofs.ScriptPlays.{IsSoFar-none, IsSoFar-more, IsSoFar-ends, IsSoFar-looked, Ok-not_Err}
 use Rattle.radio_script.proofs.playing.play_with.Goals as goal
 

@@ -1,8 +1,5 @@
 use Rattle.std.proofs.Common.{◌≡◌, [], ◌∷◌, ◌++◌, false, ◌==◌, arith}
-use Rattle.std.proofs.lemmas.Bool.Decides.{nat_tests}
-use Rattle.std.proofs.lemmas.Grind.{common_steps}
-use Rattle.std.proofs.lemmas.List.{length_push}
-use Rattle.std.proofs.KnownBytes.{Consumes-trans}
+use Rattle.radio_script.proofs.Words.{nat_tests, common_steps, length_push, Consumes-trans}
 use Rattle.radio_script.proofs.DeviceLemmas.{has_feed-push}
 use Rattle.radio_script.proofs.reading.read_line.Goals as goal
 

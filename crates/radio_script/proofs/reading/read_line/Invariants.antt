@@ -1,7 +1,5 @@
 use Rattle.std.proofs.Common.{◌≡◌, ◌+◌, ◌-◌, ◌≤◌, length, vec_len, false}
-use Rattle.std.specs.Io.KnownBytes.{Consumes}
-use Rattle.radio_script.specs.Limits.{max_line}
-use Rattle.radio_script.specs.Feeds.{has_feed}
+use Rattle.radio_script.proofs.Words.{Consumes, max_line, has_feed}
 use Rattle.radio_script.proofs.reading.read_line.Given as goal
 
 abbrev pub invariant-loop-reader : goal.invariant-loop-reader

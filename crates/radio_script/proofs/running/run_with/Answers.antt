@@ -1,7 +1,5 @@
 use Rattle.std.proofs.Common.{◌≡◌, ℕ, ◌+◌, ◌<◌, ◌∷◌, ◌++◌, [], List, Some, Err, length, drop, get_or, arith, sym, ap, ◌∙◌, subst}
-use Rattle.std.proofs.lemmas.List.{drop_more, drop_all}
-use Rattle.radio_script.specs.declared.delivery.Delivery.{Delivery}
-use Rattle.radio_script.specs.Runs.{Runs}
+use Rattle.radio_script.proofs.Words.{drop_more, drop_all, Delivery, Runs}
 use Rattle.radio_script.proofs.RunLemmas.{RunsOn, RunsOn-more, RunsOn-stops, RunsOn-all}
 use Rattle.radio_script.proofs.running.run_with.Goals as goal
 

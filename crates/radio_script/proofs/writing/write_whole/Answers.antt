@@ -1,7 +1,6 @@
 use Rattle.std.proofs.Common.{length-drop, take, drop, arith}
 use Rattle.std.proofs.Math.Seq.{take-add}
-use Rattle.std.proofs.lemmas.List.{take_rest}
-use Rattle.std.proofs.KnownBytes.{Appends-trans}
+use Rattle.radio_script.proofs.Words.{take_rest, Appends-trans}
 use Rattle.radio_script.proofs.writing.write_whole.Goals as goal
 
 pub loop-done-preserved : goal.loop-done-preserved

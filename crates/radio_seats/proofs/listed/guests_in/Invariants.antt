@@ -1,5 +1,5 @@
 use Rattle.std.proofs.Common.{◌≡◌, ◌++◌, map, filter_map}
-use Rattle.radio_seats.specs.Listed.{lent_guest, row_guest}
+use Rattle.radio_seats.proofs.Words.{lent_guest, row_guest}
 use Rattle.radio_seats.proofs.listed.guests_in.Given as goal
 
 abbrev pub invariant-loop-row : goal.invariant-loop-row

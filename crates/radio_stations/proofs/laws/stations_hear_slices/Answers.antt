@@ -1,6 +1,5 @@
 use Rattle.std.proofs.Common.{true}
-use Rattle.radio_locks.specs.Callers.{IsCalled}
-use Rattle.radio_serving.specs.Watching.{WatchedSteps}
+use Rattle.radio_stations.proofs.Words.{IsCalled, WatchedSteps}
 use Rattle.radio_stations.proofs.SettledLemmas.{settled_hear_slices}
 use Rattle.radio_stations.proofs.StationLemmas.{add_up, hear_slices}
 use Rattle.radio_stations.proofs.TurnLemmas.{mean_their_bytes, only_answered}

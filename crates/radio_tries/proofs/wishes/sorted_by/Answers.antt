@@ -1,6 +1,5 @@
 use Rattle.std.proofs.Common.{ℕ, List, [], ◌∷◌, ◌++◌, ap, sym, ◌∙◌}
-use Rattle.radio_settings_values.specs.declared.settings.RelaySetting.{RelaySetting}
-use Rattle.radio_tries.specs.Wishes.{stopped_by, own_of, other_started_relays}
+use Rattle.radio_tries.proofs.Words.{RelaySetting, stopped_by, own_of, other_started_relays}
 use Rattle.radio_tries.proofs.Orders.{stopped-append, own-append, others-append}
 use Rattle.radio_tries.proofs.wishes.sorted_by.Goals as goal
 

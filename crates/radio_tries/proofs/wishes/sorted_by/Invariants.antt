@@ -1,4 +1,4 @@
-use Rattle.radio_tries.specs.Wishes.{Sorts}
+use Rattle.radio_tries.proofs.Words.{Sorts}
 use Rattle.radio_tries.proofs.wishes.sorted_by.Given as goal
 
 abbrev pub invariant-orders : goal.invariant-orders

@@ -1,5 +1,5 @@
 use Rattle.std.proofs.Common.{arith}
-use Rattle.std.proofs.lemmas.Bool.Decides.{nat_tests}
+use Rattle.radio_workers.proofs.Words.{nat_tests}
 use Rattle.radio_workers.proofs.AcceptingLemmas.{counted}
 use Rattle.radio_workers.proofs.intake_laws.accepting_rests.Goals as goal
 

@@ -1,6 +1,5 @@
 use Rattle.std.proofs.Common.{List, [], subst}
-use Rattle.radio_connections.specs.Connections.{Connection}
-use Rattle.radio_workers.specs.Working.{WorkerHasDone, shift_of}
+use Rattle.radio_workers.proofs.Words.{Connection, WorkerHasDone, shift_of}
 use Rattle.radio_workers.proofs.shift.serve.Goals as goal
 
 pub returns-clause-worked : goal.returns-clause-worked

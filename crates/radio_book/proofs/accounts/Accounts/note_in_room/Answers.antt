@@ -1,11 +1,5 @@
 use Rattle.std.proofs.Common.{◌≡◌, ◌∙◌, ◌++◌, ◌∷◌, [], true, List, refl, ap, sym, subst}
-use Rattle.radio_chronicle.specs.declared.line.ControlLine.{ControlLine}
-use Rattle.radio_chronicle.specs.declared.line.ControlLine.TheVariants.{Made}
-use Rattle.radio_events.specs.Events.{entry}
-use Rattle.radio_events.specs.declared.event.Event.{Event}
-use Rattle.radio_events.specs.declared.reply.Reply.{Reply}
-use Rattle.radio_book.specs.ControlLists.{entries_in}
-use Rattle.radio_book.specs.LentParts.{IsControlStep}
+use Rattle.radio_book.proofs.Words.{ControlLine, Made, entry, Event, Reply, entries_in, IsControlStep}
 use Rattle.radio_book.proofs.HistoryLemmas.{noted_entries, made_more, made_still}
 use Rattle.radio_book.proofs.accounts.Accounts.note_in_room.Goals as goal
 

@@ -1,5 +1,5 @@
 use Rattle.std.proofs.Common.{refl, true}
-use Rattle.radio_book.specs.LentParts.{IsControlAsBefore}
+use Rattle.radio_book.proofs.Words.{IsControlAsBefore}
 use Rattle.radio_book.proofs.HistoryLemmas.{legal_wanted, made_still, wanted_over}
 use Rattle.radio_book.proofs.accounts.Accounts.wanted.Goals as goal
 

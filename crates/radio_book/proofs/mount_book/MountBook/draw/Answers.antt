@@ -1,6 +1,5 @@
 use Rattle.std.proofs.Common.{ap, ◌∙◌}
-use Rattle.radio_book.specs.MountBooks.{BookOfMount}
-use Rattle.radio_book.specs.declared.mount_book.BookParts.{BookParts}
+use Rattle.radio_book.proofs.Words.{BookOfMount, BookParts}
 use Rattle.radio_book.proofs.DrawLemmas.{handed_here, nothing_here}
 use Rattle.radio_book.proofs.mount_book.MountBook.draw.Goals as goal
 

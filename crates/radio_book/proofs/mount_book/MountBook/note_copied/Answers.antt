@@ -1,7 +1,5 @@
 use Rattle.std.proofs.Common.{ap, ◌∙◌}
-use Rattle.radio_book.specs.MountBooks.{once_in, BookOfMount}
-use Rattle.radio_book.specs.declared.mount_book.BookParts.{BookParts}
-use Rattle.radio_chronicle.specs.OwnSteps.{answered_here, part_here}
+use Rattle.radio_book.proofs.Words.{once_in, BookOfMount, BookParts, answered_here, part_here}
 use Rattle.radio_book.proofs.OwnLemmas.{done_here, noted_in, once_answers, once_becomes, once_kept}
 use Rattle.radio_book.proofs.mount_book.MountBook.note_copied.Goals as goal
 

@@ -1,6 +1,5 @@
 use Rattle.std.proofs.Common.{◌∙◌, subst, sym}
-use Rattle.radio_core.specs.Represents.{Represents}
-use Rattle.radio_parts_station.specs.World.{World}
+use Rattle.radio_core.proofs.Words.{Represents, World}
 use Rattle.radio_core.proofs.Kept.StepLemmas.{last_alike}
 use Rattle.radio_core.proofs.server.Core.last_mount.Goals as goal
 

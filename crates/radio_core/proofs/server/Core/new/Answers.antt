@@ -1,5 +1,5 @@
 use Rattle.std.proofs.Common.{sym, subst}
-use Rattle.radio_core.specs.Represents.{StandsForSome}
+use Rattle.radio_core.proofs.Words.{StandsForSome}
 use Rattle.radio_core.proofs.Kept.StepLemmas.{opening_stands}
 use Rattle.radio_core.proofs.server.Core.new.Goals as goal
 

@@ -1,7 +1,5 @@
 use Rattle.std.proofs.Common.{refl, sym, subst}
-use Rattle.radio_parts.specs.Planned.{planned}
-use Rattle.radio_core.specs.Represents.{Represents}
-use Rattle.radio_parts_station.specs.World.{World}
+use Rattle.radio_core.proofs.Words.{planned, Represents, World}
 use Rattle.radio_core.proofs.Kept.CanSteps.{stands_can}
 use Rattle.radio_core.proofs.Kept.StepLemmas.{step_done, still_stands}
 use Rattle.radio_core.proofs.server.Core.step.Goals as goal

@@ -1,7 +1,5 @@
 use Rattle.std.proofs.Common.{ap, sym, ◌∙◌}
-use Rattle.std.specs.Option.{option_copied}
-use Rattle.radio_seats_rows.specs.Seats.{others_of}
-use Rattle.radio_fallback.specs.Carry.{walks_on, is_asked, turn_by}
+use Rattle.radio_fallback.proofs.Words.{option_copied, others_of, walks_on, is_asked, turn_by}
 use Rattle.radio_fallback.proofs.WalkLaws.{walks_ten}
 use Rattle.radio_fallback.proofs.moves.Move.turn.Goals as goal
 

@@ -1,7 +1,5 @@
 use Rattle.std.proofs.Common.{◌≡◌}
-use Rattle.std.specs.Option.{option_copied}
-use Rattle.radio_seats_rows.specs.Seats.{others_of}
-use Rattle.radio_fallback.specs.Walk.{walk}
+use Rattle.radio_fallback.proofs.Words.{option_copied, others_of, walk}
 use Rattle.radio_fallback.proofs.walker.Walker.walk.Given as goal
 
 -- from here, with what is left to look at, the walk ends where it ends from the beginning

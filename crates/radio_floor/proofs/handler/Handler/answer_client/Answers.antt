@@ -1,9 +1,5 @@
 use Rattle.std.proofs.Common.{ℕ, List, IfOk, subst, sym}
-use Rattle.radio_script.specs.declared.delivery.Input.{Input}
-use Rattle.radio_script.specs.declared.delivery.Input.TheVariants.{Data}
-use Rattle.radio_floor.specs.declared.labelled.Connection.TheVariants.{Client}
-use Rattle.radio_floor.specs.ScriptServer.{AnswersAs}
-use Rattle.radio_floor.specs.ScriptState.{ComesToClient}
+use Rattle.radio_floor.proofs.Words.{Input, Data, Client, AnswersAs, ComesToClient}
 use Rattle.radio_floor.proofs.handler.Handler.answer_client.Goals as goal
 
 pub returns-in-Data : goal.returns-in-Data

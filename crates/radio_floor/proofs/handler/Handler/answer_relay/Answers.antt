@@ -1,7 +1,5 @@
 use Rattle.std.proofs.Common.{ℕ, List, Some, ap, sym, subst}
-use Rattle.radio_floor.specs.declared.labelled.Connection.TheVariants.{Relay}
-use Rattle.radio_floor.specs.ScriptServer.{performed_as, script_state_of}
-use Rattle.radio_floor.specs.ScriptState.{ComesToRelay, Performed, kept_unless, written_lines, with_connection}
+use Rattle.radio_floor.proofs.Words.{Relay, performed_as, script_state_of, ComesToRelay, Performed, kept_unless, written_lines, with_connection}
 use Rattle.radio_floor.proofs.handler.Handler.answer_relay.Goals as goal
 
 pub returns : goal.returns

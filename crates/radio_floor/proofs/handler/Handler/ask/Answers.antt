@@ -1,11 +1,5 @@
 use Rattle.std.proofs.Common.{◌≡◌, ap, sym, ◌∙◌}
-use Rattle.std.proofs.lemmas.Result.{IfOk-weaker}
-use Rattle.radio_events.specs.declared.state.State.{State}
-use Rattle.radio_core.specs.Represents.{core_steps}
-use Rattle.radio_relay.specs.Course.{AsksIf}
-use Rattle.radio_relay.specs.Pulling.{Pulling, NumberedState}
-use Rattle.radio_floor.specs.ScriptServer.{PullsAs, script_state_of}
-use Rattle.radio_floor.specs.ScriptState.{AsksOn, pulled_on}
+use Rattle.radio_floor.proofs.Words.{IfOk-weaker, State, core_steps, AsksIf, Pulling, NumberedState, PullsAs, script_state_of, AsksOn, pulled_on}
 use Rattle.radio_floor.proofs.handler.Handler.ask.Goals as goal
 
 pub returns : goal.returns

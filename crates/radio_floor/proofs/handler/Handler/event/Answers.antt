@@ -1,8 +1,5 @@
 use Rattle.std.proofs.Common.{◌≡◌, List, [], ◌∷◌, ◌++◌, IfOk, ap, subst, ◌∙◌}
-use Rattle.radio_events.specs.declared.event.Event.{Event}
-use Rattle.radio_floor.specs.declared.labelled.Connection.TheVariants.{Client}
-use Rattle.radio_floor.specs.ScriptState.{exchanges}
-use Rattle.radio_floor.specs.ScriptServer.{AnswersAs}
+use Rattle.radio_floor.proofs.Words.{Event, Client, exchanges, AnswersAs}
 use Rattle.radio_floor.proofs.handler.Handler.event.Goals as goal
 
 pub returns : goal.returns

@@ -1,9 +1,5 @@
 use Rattle.std.proofs.Common.{◌≡◌, List, ◌++◌, ℕ, ap, subst, ◌∙◌}
-use Rattle.radio_parts_station.specs.World.{World}
-use Rattle.radio_floor.specs.declared.handler.DeliveryAnswer.{DeliveryAnswer}
-use Rattle.radio_floor.specs.declared.labelled.Connection.TheVariants.{Client}
-use Rattle.radio_floor.specs.ScriptState.{exchanges}
-use Rattle.radio_floor.specs.ScriptServer.{AnswersAs}
+use Rattle.radio_floor.proofs.Words.{World, DeliveryAnswer, Client, exchanges, AnswersAs}
 use Rattle.radio_floor.proofs.AnsweredLemmas.{answers_exchanged}
 use Rattle.radio_floor.proofs.handler.Handler.exchange.Goals as goal
 

@@ -1,9 +1,5 @@
 use Rattle.std.proofs.Common.{◌≡◌}
-use Rattle.std.proofs.lemmas.Result.{IfOk-weaker}
-use Rattle.radio_session.specs.Hearing.{EventReading, IsHeard}
-use Rattle.radio_floor.specs.declared.labelled.Connection.TheVariants.{Client}
-use Rattle.radio_floor.specs.ScriptState.{exchanges}
-use Rattle.radio_floor.specs.ScriptServer.{AnswersAs}
+use Rattle.radio_floor.proofs.Words.{IfOk-weaker, EventReading, IsHeard, Client, exchanges, AnswersAs}
 use Rattle.radio_floor.proofs.handler.Handler.hear.Goals as goal
 
 pub returns : goal.returns

@@ -1,7 +1,5 @@
 use Rattle.std.proofs.Common.{IfOk, Option, subst}
-use Rattle.radio_events.specs.declared.event.Event.{Event}
-use Rattle.radio_floor.specs.ScriptServer.{PullsAs}
-use Rattle.radio_floor.specs.ScriptState.{AsksOn}
+use Rattle.radio_floor.proofs.Words.{Event, PullsAs, AsksOn}
 use Rattle.radio_floor.proofs.handler.Handler.make_room.Goals as goal
 
 pub returns : goal.returns

@@ -1,11 +1,6 @@
 use Rattle.std.proofs.Common.{◌≡◌, ℕ, List, IfOk, Option, ap, subst, ◌∙◌}
-use Rattle.std.specs.Option.{option_map}
-use Rattle.radio_events.specs.declared.event.Event.{Event}
+use Rattle.radio_floor.proofs.Words.{option_map, Event, cleaned, max_title, PullsAs, AsksOn}
 use Rattle.radio_events.specs.declared.event.Event.TheVariants.{Title}
-use Rattle.radio_values.specs.Cleaning.{cleaned}
-use Rattle.radio_values.specs.Limits.{max_title}
-use Rattle.radio_floor.specs.ScriptServer.{PullsAs}
-use Rattle.radio_floor.specs.ScriptState.{AsksOn}
 use Rattle.radio_floor.proofs.handler.Handler.name.Goals as goal
 
 pub returns : goal.returns

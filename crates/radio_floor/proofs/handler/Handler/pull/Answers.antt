@@ -1,8 +1,5 @@
 use Rattle.std.proofs.Common.{ℕ, List, IfOk, subst, sym}
-use Rattle.radio_script.specs.declared.delivery.Input.{Input}
-use Rattle.radio_script.specs.declared.delivery.Input.TheVariants.{Data, Title}
-use Rattle.radio_floor.specs.ScriptServer.{PullsAs}
-use Rattle.radio_floor.specs.ScriptState.{ComesToRelay}
+use Rattle.radio_floor.proofs.Words.{Input, Data, Title, PullsAs, ComesToRelay}
 use Rattle.radio_floor.proofs.handler.Handler.pull.Goals as goal
 
 pub returns-in-Data : goal.returns-in-Data

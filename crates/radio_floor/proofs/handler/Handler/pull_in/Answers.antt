@@ -1,10 +1,5 @@
 use Rattle.std.proofs.Common.{refl}
-use Rattle.std.proofs.lemmas.Result.{IfOk-weaker}
-use Rattle.radio_script.specs.declared.delivery.Input.TheVariants.{Data}
-use Rattle.radio_core.specs.Represents.{core_steps}
-use Rattle.radio_relay.specs.Course.{Takes}
-use Rattle.radio_floor.specs.ScriptServer.{PullsAs}
-use Rattle.radio_floor.specs.ScriptState.{ComesToRelay}
+use Rattle.radio_floor.proofs.Words.{IfOk-weaker, Data, core_steps, Takes, PullsAs, ComesToRelay}
 use Rattle.radio_floor.proofs.handler.Handler.pull_in.Goals as goal
 
 pub returns : goal.returns

@@ -1,6 +1,5 @@
 use Rattle.std.proofs.Common.{Ok, Option, Some, refl, subst, sym}
-use Rattle.radio_floor.specs.declared.labelled.Connection.{Connection}
-use Rattle.radio_floor.specs.ScriptServer.{AnswersOn}
+use Rattle.radio_floor.proofs.Words.{Connection, AnswersOn}
 use Rattle.radio_floor.proofs.handler.HandlerRowVisitLabelled.visit.Goals as goal
 
 pub returns : goal.returns

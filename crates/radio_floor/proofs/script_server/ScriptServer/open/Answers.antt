@@ -1,14 +1,5 @@
 use Rattle.std.proofs.Common.{◌≡◌, ◌++◌, List, ℕ, Option, Some, sym, ap, ◌∙◌}
-use Rattle.radio_events.specs.declared.event.Event.TheVariants.{Arrive}
-use Rattle.radio_parts.specs.Step.{reply_to, world_after}
-use Rattle.radio_tables.specs.Lists.{placed}
-use Rattle.radio_events.specs.declared.state.State.{State}
-use Rattle.radio_floor.specs.declared.labelled.Labelled.{Labelled}
-use Rattle.radio_session.specs.Saying.{said}
-use Rattle.radio_session.specs.Conversation.{asking}
-use Rattle.radio_floor.specs.declared.labelled.Connection.{Connection}
-use Rattle.radio_floor.specs.ScriptState.{taken_in, written_lines, by_label}
-use Rattle.radio_floor.specs.ScriptServer.{performed_as}
+use Rattle.radio_floor.proofs.Words.{Arrive, reply_to, world_after, placed, State, Labelled, said, asking, Connection, taken_in, written_lines, by_label, performed_as}
 use Rattle.radio_floor.proofs.script_server.ScriptServer.open.Goals as goal
 
 pub returns-clause-opens : goal.returns-clause-opens

@@ -1,16 +1,9 @@
 use Rattle.std.proofs.Common.{◌≡◌, [], None, Option, Result, Ok, Some, append-nil, ap, subst, sym, ◌∙◌}
 use Rattle.std.specs.declared.alloc.AllocError.{AllocError}
-use Rattle.radio_parts_station.specs.World.{World}
-use Rattle.radio_core.specs.Represents.{Represents}
+use Rattle.radio_floor.proofs.Words.{World, Represents, To, Input, DeliveryAnswer, Labelled, AnswersUnder, has_label, written_lines}
 use Rattle.radio_tables.proofs.VisitLaws.{was_visited}
 use Rattle.radio_tables.specs.Visits.{IsVisited}
-use Rattle.radio_script.specs.declared.delivery.Delivery.TheVariants.{To}
-use Rattle.radio_script.specs.declared.delivery.Input.{Input}
 use Rattle.radio_floor.specs.declared.handler.Handler.{Handler}
-use Rattle.radio_floor.specs.declared.handler.DeliveryAnswer.{DeliveryAnswer}
-use Rattle.radio_floor.specs.declared.labelled.Labelled.{Labelled}
-use Rattle.radio_floor.specs.ScriptServer.{AnswersUnder}
-use Rattle.radio_floor.specs.ScriptState.{has_label, written_lines}
 use Rattle.radio_floor.proofs.VisitLemmas.{shut-label, answered-label, performs-written}
 use Rattle.radio_floor.proofs.script_server.ScriptServer.perform_input.Goals as goal
 

@@ -1,6 +1,5 @@
 use Rattle.std.proofs.Common.{◌≡◌, Some, false, is_some}
-use Rattle.radio_floor.specs.ScriptState.{connection_of, opens_connection}
-use Rattle.radio_floor.specs.ScriptServer.{script_state_of, performed_as, OpensAs}
+use Rattle.radio_floor.proofs.Words.{connection_of, opens_connection, script_state_of, performed_as, OpensAs}
 use Rattle.radio_floor.proofs.ScriptStateLemmas.{new-label}
 use Rattle.radio_floor.proofs.script_server.ScriptServer.perform_open.Goals as goal
 

@@ -1,8 +1,5 @@
 use Rattle.std.proofs.Common.{◌≡◌, Bool, Ok, Some, true, false, is_some, ap, subst, sym, ◌∙◌}
-use Rattle.radio_parts_station.specs.World.{World}
-use Rattle.radio_core.specs.Represents.{Represents}
-use Rattle.radio_floor.specs.ScriptState.{connection_of, connects, relay_named}
-use Rattle.radio_floor.specs.ScriptServer.{script_state_of, performed_as}
+use Rattle.radio_floor.proofs.Words.{World, Represents, connection_of, connects, relay_named, script_state_of, performed_as}
 use Rattle.radio_floor.proofs.ScriptStateLemmas.{new-label}
 use Rattle.radio_floor.proofs.script_server.ScriptServer.perform_pull.Goals as goal
 

@@ -1,5 +1,5 @@
 use Rattle.std.proofs.Common.{◌∙◌, sym}
-use Rattle.radio_events.specs.declared.event.Event.TheVariants.{Draw}
+use Rattle.radio_locks.proofs.Words.{Draw}
 use Rattle.radio_locks.proofs.PassLemmas.{draw_refused, drawn}
 use Rattle.radio_locks.proofs.callers.HallSharedServer.draw.Goals as goal
 

@@ -1,4 +1,4 @@
-use Rattle.radio_events.specs.declared.event.Event.TheVariants.{Draw}
+use Rattle.radio_locks.proofs.Words.{Draw}
 use Rattle.radio_locks.proofs.Replies.{drawn_by}
 use Rattle.radio_locks.proofs.hall.Hall.draw_at.Goals as goal
 

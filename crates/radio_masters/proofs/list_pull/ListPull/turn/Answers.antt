@@ -1,5 +1,5 @@
 use Rattle.std.proofs.Common.{◌∙◌, sym, ap, subst, ℕ, List, [], ◌++◌, append-nil, take, OnOk}
-use Rattle.radio_masters.specs.ListAnswers.{ListOver}
+use Rattle.radio_masters.proofs.Words.{ListOver}
 use Rattle.radio_masters.proofs.Called.{Came}
 use Rattle.radio_masters.proofs.list_pull.ListPull.turn.Goals as goal
 use Rattle.radio_masters.proofs.list_pull.ListPull.turn.Goals.{in-Ok, in-Err, in-Ok-read_list_answer, in-Err-read_list_answer}

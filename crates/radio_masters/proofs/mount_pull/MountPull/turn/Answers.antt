@@ -1,6 +1,5 @@
 use Rattle.std.proofs.Common.{◌∙◌, ap, ℕ, suc, List, ◌++◌, take}
-use Rattle.radio_connections.specs.Lines.{Calls}
-use Rattle.radio_masters.specs.Pulls.{PullOver}
+use Rattle.radio_masters.proofs.Words.{Calls, PullOver}
 use Rattle.radio_masters.proofs.Called.{called_on, turn_with_bytes}
 use Rattle.radio_masters.proofs.mount_pull.MountPull.turn.Goals as goal
 

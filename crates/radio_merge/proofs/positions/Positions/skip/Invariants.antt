@@ -1,7 +1,5 @@
 use Rattle.std.proofs.Common.{List}
-use Rattle.radio_events.specs.declared.entry.Entry.{Entry}
-use Rattle.radio_chronicle.specs.declared.stamp.Stamp.{Stamp}
-use Rattle.radio_merge.specs.Merged.{Merged}
+use Rattle.radio_merge.proofs.Words.{Entry, Stamp, Merged}
 use Rattle.radio_merge.proofs.positions.Positions.skip.Given as goal
 
 abbrev pub invariant-ends : goal.invariant-ends

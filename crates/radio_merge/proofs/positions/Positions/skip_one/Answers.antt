@@ -1,5 +1,5 @@
 use Rattle.std.proofs.Common.{sym, subst}
-use Rattle.radio_merge.specs.Merged.{Positions, Merged, LeavesOut}
+use Rattle.radio_merge.proofs.Words.{Positions, Merged, LeavesOut}
 use Rattle.radio_merge.proofs.positions.Positions.skip_one.Goals as goal
 
 pub returns : goal.returns

@@ -1,6 +1,5 @@
 use Rattle.std.proofs.Common.{◌≡◌, [], ◌∷◌, ◌++◌, ◌-◌, ℕ, length, sym, subst, arith}
-use Rattle.radio_chronicle.specs.Stamps.{stamp}
-use Rattle.radio_merge.specs.Merged.{Positions, Merged, TakesControl}
+use Rattle.radio_merge.proofs.Words.{stamp, Positions, Merged, TakesControl}
 use Rattle.radio_merge.proofs.positions.Positions.take_control.Goals as goal
 
 pub returns : goal.returns

@@ -1,7 +1,5 @@
 use Rattle.std.proofs.Common.{[], ◌∷◌, ◌++◌, ◌+◌, ℕ, sym, subst}
-use Rattle.std.specs.Prelude.{slice_set}
-use Rattle.radio_chronicle.specs.Stamps.{stamp}
-use Rattle.radio_merge.specs.Merged.{Positions, Merged, TakesOwn}
+use Rattle.radio_merge.proofs.Words.{slice_set, stamp, Positions, Merged, TakesOwn}
 use Rattle.radio_merge.proofs.positions.Positions.take_own.Goals as goal
 
 pub returns : goal.returns

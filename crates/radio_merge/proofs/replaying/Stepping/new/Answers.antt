@@ -1,4 +1,4 @@
-use Rattle.radio_parts_station.specs.World.{opening}
+use Rattle.radio_merge.proofs.Words.{opening}
 use Rattle.radio_merge.proofs.Steppings.{begins}
 use Rattle.radio_merge.proofs.replaying.Stepping.new.Goals as goal
 

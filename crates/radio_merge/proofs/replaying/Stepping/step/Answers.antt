@@ -1,5 +1,5 @@
 use Rattle.std.proofs.Common.{◌≡◌, ◌∷◌, [], ◌++◌, List, Option, IfSome, ap, ◌∙◌, subst}
-use Rattle.radio_events.specs.declared.entry.Entry.{Entry}
+use Rattle.radio_merge.proofs.Words.{Entry}
 use Rattle.radio_merge.proofs.Steppings.{Steps, one_more}
 use Rattle.radio_merge.proofs.replaying.Stepping.step.Goals as goal
 

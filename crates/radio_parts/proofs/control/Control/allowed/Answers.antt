@@ -1,14 +1,6 @@
 use Rattle.std.proofs.Common.{◌≡◌, ℕ, refl, ap, ◌∙◌}
-use Rattle.radio_events.specs.declared.command.Listing.{Listing}
-use Rattle.radio_events.specs.declared.command.Listing.TheVariants.{Status, Stats, Mounts, Clients, Streams}
+use Rattle.radio_parts.proofs.Words.{Listing, Status, Stats, Mounts, Clients, Streams, ReplyText, Answer, shown, World, shows, says, uncounted}
 use Rattle.radio_events.specs.declared.reply.Reply.TheVariants.{Text as SaysText}
-use Rattle.radio_events.specs.declared.text.ReplyText.{ReplyText}
-use Rattle.radio_parts_changes.specs.declared.change.Change.TheVariants.{Answer}
-use Rattle.radio_parts_facts.specs.Listings.{shown}
-use Rattle.radio_parts_station.specs.World.{World}
-use Rattle.radio_parts.specs.Command.{shows}
-use Rattle.radio_parts.specs.Outcomes.{says}
-use Rattle.radio_parts.specs.Planned.{uncounted}
 use Rattle.radio_parts.proofs.LentState.{lent_state}
 use Rattle.radio_parts.proofs.control.Control.allowed.Goals as goal
 

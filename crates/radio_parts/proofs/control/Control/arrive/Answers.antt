@@ -1,9 +1,6 @@
 use Rattle.std.proofs.Common.{◌≡◌, ◌==◌, false, ap, sym, subst, ◌∙◌}
 use Rattle.radio_policy.specs.declared.facts.ArriveFacts.{ArriveFacts}
-use Rattle.radio_policy.specs.Table.{arrive_rows}
-use Rattle.radio_policy.specs.Verdicts.{verdict_in}
-use Rattle.radio_parts_station.specs.Facts.{largest_number}
-use Rattle.radio_parts_station.specs.StationState.{StationState}
+use Rattle.radio_parts.proofs.Words.{arrive_rows, verdict_in, largest_number, StationState}
 use Rattle.radio_parts.proofs.Ways.{has_number_left}
 use Rattle.radio_parts.proofs.control.Control.arrive.Goals as goal
 

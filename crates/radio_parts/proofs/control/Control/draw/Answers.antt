@@ -1,9 +1,5 @@
 use Rattle.std.proofs.Common.{◌≡◌, None, Some, IfOk, List, ap, sym, subst, ◌∙◌}
-use Rattle.radio_seats_rows.specs.declared.seat.Listener.{Listener}
-use Rattle.radio_seats_rows.specs.Seats.{seat_of}
-use Rattle.radio_seats.specs.Lent.{lent_seat}
-use Rattle.radio_parts.specs.declared.outcome.Outcome.{Outcome}
-use Rattle.radio_parts.specs.Draw.{comes_to}
+use Rattle.radio_parts.proofs.Words.{Listener, seat_of, lent_seat, Outcome, comes_to}
 use Rattle.radio_parts.proofs.SeatedDraws.{draws_seated, draws_seatless}
 use Rattle.radio_parts.proofs.control.Control.draw.Goals as goal
 

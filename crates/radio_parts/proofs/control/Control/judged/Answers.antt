@@ -1,17 +1,7 @@
 use Rattle.std.proofs.Common.{◌≡◌, Option, IfOk, ap, sym, subst, ◌∙◌}
 use Rattle.radio_policy.specs.declared.facts.CommandFacts.{CommandFacts}
-use Rattle.radio_policy.specs.declared.judgement.Verdict.{Verdict}
-use Rattle.radio_policy.specs.declared.judgement.Verdict.TheVariants.{Allow, Deny as Denied}
-use Rattle.radio_policy.specs.Table.{command_rows}
-use Rattle.radio_policy.specs.Verdicts.{verdict_in}
-use Rattle.radio_events.specs.declared.command.CommandRequest.{CommandRequest}
-use Rattle.radio_parts_changes.specs.declared.change.Change.TheVariants.{Answer}
-use Rattle.radio_parts_facts.specs.CommandFacts.{facts_asked, rows_to_command}
-use Rattle.radio_parts_station.specs.World.{World, world}
-use Rattle.radio_parts.specs.declared.outcome.Outcome.{Outcome}
-use Rattle.radio_parts.specs.Command.{does_asked}
-use Rattle.radio_parts.specs.Outcomes.{on_verdict}
-use Rattle.radio_parts.specs.Planned.{uncounted}
+use Rattle.radio_parts.proofs.Words.{Verdict, Allow, command_rows, verdict_in, CommandRequest, Answer, facts_asked, rows_to_command, World, world, Outcome, does_asked, on_verdict, uncounted}
+use Rattle.radio_policy.specs.declared.judgement.Verdict.TheVariants.{Deny as Denied}
 use Rattle.radio_parts.proofs.LentState.{lent_state}
 use Rattle.radio_parts.proofs.control.Control.judged.Goals as goal
 

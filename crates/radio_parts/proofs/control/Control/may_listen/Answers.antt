@@ -1,23 +1,8 @@
 use Rattle.std.proofs.Common.{◌≡◌, true, ℕ, List, Some, refl, ap, sym, subst, ◌∙◌}
-use Rattle.radio_addr.specs.declared.peer.Peer.{Peer}
+use Rattle.radio_parts.proofs.Words.{Peer, Verdict, Allow, listen_rows, verdict_in, ListenRequest, Change, Answer, Outcome, Standing, Undecided, Landing, listen_facts_at, names_mount, rows_to_listen, walks_to}
+use Rattle.radio_parts.proofs.Words.{sits_where, on_verdict, if_undecided, StationState, World, standing_of, Listener}
 use Rattle.radio_policy.specs.declared.facts.ListenFacts.{ListenFacts}
-use Rattle.radio_policy.specs.declared.judgement.Verdict.{Verdict}
-use Rattle.radio_policy.specs.declared.judgement.Verdict.TheVariants.{Allow, Deny as Denied}
-use Rattle.radio_policy.specs.Table.{listen_rows}
-use Rattle.radio_policy.specs.Verdicts.{verdict_in}
-use Rattle.radio_events.specs.declared.event.ListenRequest.{ListenRequest}
-use Rattle.radio_parts_changes.specs.declared.change.Change.{Change}
-use Rattle.radio_parts_changes.specs.declared.change.Change.TheVariants.{Answer}
-use Rattle.radio_parts.specs.declared.outcome.Outcome.{Outcome}
-use Rattle.radio_parts_station.specs.declared.standing.Standing.{Standing}
-use Rattle.radio_parts_station.specs.declared.standing.Standing.TheVariants.{Undecided}
-use Rattle.radio_fallback.specs.declared.walking.Landing.{Landing}
-use Rattle.radio_parts_station.specs.Facts.{listen_facts_at, names_mount, rows_to_listen, walks_to}
-use Rattle.radio_parts.specs.Listen.{sits_where}
-use Rattle.radio_parts.specs.Outcomes.{on_verdict, if_undecided}
-use Rattle.radio_parts_station.specs.StationState.{StationState}
-use Rattle.radio_parts_station.specs.World.{World, standing_of}
-use Rattle.radio_seats_rows.specs.declared.seat.Listener.{Listener}
+use Rattle.radio_policy.specs.declared.judgement.Verdict.TheVariants.{Deny as Denied}
 use Rattle.radio_parts.proofs.control.Control.may_listen.Goals as goal
 
 -- the policy judges by the facts of the mount that the path names, from the present station and listeners

@@ -1,17 +1,6 @@
 use Rattle.std.proofs.Common.{◌≡◌, ◌∙◌, List, refl, ap, sym, subst}
-use Rattle.std.specs.Prelude.{map}
-use Rattle.radio_events.specs.declared.event.Event.{Event}
-use Rattle.radio_events.specs.declared.reply.Reply.{Reply}
-use Rattle.radio_events.specs.declared.reply.Reply.TheVariants.{Noted}
-use Rattle.radio_fallback.specs.declared.moves.Carried.{Carried}
-use Rattle.radio_parts_changes.specs.Counts.{counted}
-use Rattle.radio_parts_changes.specs.KeptChanges.{kept_changed}
-use Rattle.radio_parts_changes.proofs.DueLemmas.{due_committed}
-use Rattle.radio_parts_station.specs.World.{World}
-use Rattle.radio_parts.specs.declared.outcome.Outcome.{Outcome}
-use Rattle.radio_parts.specs.Common.{common_after, common_of}
+use Rattle.radio_parts.proofs.Words.{map, Event, Reply, Noted, Carried, counted, kept_changed, due_committed, World, Outcome, common_after, common_of, planned, with_counts}
 use Rattle.radio_parts.specs.ControlSteps.{three_of}
-use Rattle.radio_parts.specs.Planned.{planned, with_counts}
 use Rattle.radio_parts.proofs.CommonLemmas.{common_clocked, common_worked_out}
 use Rattle.radio_parts.proofs.PlannedLemmas.{clock_planned}
 use Rattle.radio_parts.proofs.SmallOutcomes.{small_can, small_change, small_reply}

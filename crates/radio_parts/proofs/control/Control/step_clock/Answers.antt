@@ -1,11 +1,6 @@
 use Rattle.std.proofs.Common.{◌≡◌, Bool, false, ℕ, nat_lt, ap, sym, subst, ◌∙◌}
-use Rattle.std.specs.Prelude.{if◌then◌else◌}
+use Rattle.radio_parts.proofs.Words.{if◌then◌else◌, ticked, kept_changed, Nothing, Tick, only_time_changes, due_from_first, World}
 use Rattle.std.proofs.lemmas.Bool.{le-ltb}
-use Rattle.radio_parts_changes.specs.Changes.{ticked}
-use Rattle.radio_parts_changes.specs.KeptChanges.{kept_changed}
-use Rattle.radio_parts_changes.specs.declared.change.Change.TheVariants.{Nothing, Tick}
-use Rattle.radio_parts_changes.proofs.DueLemmas.{only_time_changes, due_from_first}
-use Rattle.radio_parts_station.specs.World.{World}
 use Rattle.radio_parts.proofs.control.Control.step_clock.Goals as goal
 
 pub returns-then-ms-self : goal.returns-then-ms-self

@@ -1,11 +1,5 @@
 use Rattle.std.proofs.Common.{ℕ, Option, ap, sym, ◌∙◌, arith}
-use Rattle.radio_seats.specs.Lent.{lent_seat}
-use Rattle.radio_parts_changes.specs.KeptChanges.{kept_changed}
-use Rattle.radio_parts_changes.specs.declared.change.Change.TheVariants.{Advance}
-use Rattle.radio_parts_changes.proofs.DueLemmas.{advanced_due}
-use Rattle.radio_parts_station.specs.World.{World}
-use Rattle.radio_parts.specs.declared.outcome.Outcome.{Outcome}
-use Rattle.radio_parts.specs.Draw.{comes_to, moves_to}
+use Rattle.radio_parts.proofs.Words.{lent_seat, kept_changed, Advance, advanced_due, World, Outcome, comes_to, moves_to}
 use Rattle.radio_parts.proofs.SeatedDraws.{drawn_so}
 use Rattle.radio_parts.proofs.control.Control.step_drawing.Goals as goal
 

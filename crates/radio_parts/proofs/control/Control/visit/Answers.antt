@@ -1,10 +1,6 @@
 use Rattle.std.proofs.Common.{◌≡◌, ap, sym, ◌∙◌}
 use Rattle.radio_events.specs.declared.reply.Reply.TheVariants.{Text as SaysText}
-use Rattle.radio_events.specs.declared.text.ReplyText.{ReplyText}
-use Rattle.radio_parts_changes.specs.declared.change.Change.TheVariants.{Answer}
-use Rattle.radio_parts_facts.specs.Pages.{page_at}
-use Rattle.radio_parts_station.specs.World.{World}
-use Rattle.radio_parts.specs.Outcomes.{says}
+use Rattle.radio_parts.proofs.Words.{ReplyText, Answer, page_at, World, says}
 use Rattle.radio_parts.proofs.LentState.{lent_state}
 use Rattle.radio_parts.proofs.control.Control.visit.Goals as goal
 

@@ -1,14 +1,5 @@
 use Rattle.std.proofs.Common.{ap, sym, subst, ◌∙◌, arith}
-use Rattle.radio_parts_table.specs.Listening.{Listening}
-use Rattle.radio_fallback.specs.Carry.{carried}
-use Rattle.radio_fallback.specs.Walk.{Sight, with_ends}
-use Rattle.radio_parts_station.proofs.LiveMounts.{heard_alike, same_sight}
-use Rattle.radio_parts_station.specs.Registry.{station_state}
-use Rattle.radio_parts_station.specs.Live.{AreLive, sight_in}
-use Rattle.radio_parts_station.specs.World.{World, world}
-use Rattle.radio_parts_mount.specs.StatePart.{ends_in}
-use Rattle.radio_parts_changes.specs.Changes.{carried_along}
-use Rattle.radio_parts_changes.specs.Counts.{counts_along}
+use Rattle.radio_parts_changes.proofs.Words.{Listening, carried, Sight, with_ends, heard_alike, same_sight, station_state, AreLive, sight_in, World, world, ends_in, carried_along, counts_along}
 use Rattle.radio_parts_changes.proofs.PreparedSeats.{as_many_carried, heard_prepared, seats_changed, some_listen}
 use Rattle.radio_parts_changes.proofs.state.ServerState.carry_along.Goals as goal
 

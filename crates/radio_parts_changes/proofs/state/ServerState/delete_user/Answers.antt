@@ -1,8 +1,5 @@
 use Rattle.std.proofs.Common.{ap, ◌∙◌}
-use Rattle.radio_parts_changes.specs.Changes.{user_deleted}
-use Rattle.radio_parts_changes.specs.Counts.{counts_out}
-use Rattle.radio_parts_station.specs.Registry.{Registry, station_state}
-use Rattle.radio_parts_station.specs.World.{World, world}
+use Rattle.radio_parts_changes.proofs.Words.{user_deleted, counts_out, Registry, station_state, World, world}
 use Rattle.radio_parts_changes.proofs.state.ServerState.delete_user.Goals as goal
 
 pub returns-clause-counts : goal.returns-clause-counts

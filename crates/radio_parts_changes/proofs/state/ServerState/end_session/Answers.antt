@@ -1,9 +1,5 @@
 use Rattle.std.proofs.Common.{refl, ap}
-use Rattle.radio_parts_table.specs.Listening.{Listening}
-use Rattle.radio_parts_station.proofs.LiveMounts.{one_ended}
-use Rattle.radio_parts_station.specs.Registry.{Registry}
-use Rattle.radio_parts_mount.proofs.PreparedLemmas.{ended_prepared}
-use Rattle.radio_parts_mount.specs.Sessions.{without_session}
+use Rattle.radio_parts_changes.proofs.Words.{Listening, one_ended, Registry, ended_prepared, without_session}
 use Rattle.radio_parts_changes.proofs.PreparedSeats.{live_changed}
 use Rattle.radio_parts_changes.proofs.state.ServerState.end_session.Goals as goal
 

@@ -1,7 +1,5 @@
 use Rattle.std.proofs.Common.{ap, ◌∙◌}
-use Rattle.radio_parts_mount.specs.Sessions.{Session}
-use Rattle.radio_parts_station.specs.Registry.{Registry, station_state}
-use Rattle.radio_parts_station.specs.World.{world}
+use Rattle.radio_parts_changes.proofs.Words.{Session, Registry, station_state, world}
 use Rattle.radio_parts_changes.proofs.SilentLemmas.{one_fewer, still_to_end, all_have_ended}
 use Rattle.radio_parts_changes.proofs.state.ServerState.end_silent.Goals as goal
 

@@ -1,6 +1,5 @@
 use Rattle.std.proofs.Common.{◌≡◌, length}
-use Rattle.std.specs.Prelude.{fold}
-use Rattle.radio_parts_changes.specs.Changes.{session_silenced, silent_in}
+use Rattle.radio_parts_changes.proofs.Words.{fold, session_silenced, silent_in}
 use Rattle.radio_parts_changes.proofs.state.ServerState.end_silent.Given as goal
 
 -- what is left to end makes what was to end from the start

@@ -1,6 +1,5 @@
 use Rattle.std.proofs.Common.{OnErr, subst}
-use Rattle.radio_parts_station.specs.World.{World}
-use Rattle.radio_parts_table.specs.Exchange.{IsUnfit}
+use Rattle.radio_parts_changes.proofs.Words.{World, IsUnfit}
 use Rattle.radio_parts_changes.proofs.LentState.{lent_holds, lent_seen, not_lent}
 use Rattle.radio_parts_changes.proofs.state.ServerState.exchange.Goals as goal
 

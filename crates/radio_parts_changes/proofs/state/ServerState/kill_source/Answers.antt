@@ -1,7 +1,5 @@
 use Rattle.std.proofs.Common.{List, ap, sym, ◌∙◌}
-use Rattle.radio_parts_mount.specs.Sessions.{Session, session_of}
-use Rattle.radio_parts_station.specs.Registry.{Registry, station_state}
-use Rattle.radio_parts_station.specs.World.{World, world}
+use Rattle.radio_parts_changes.proofs.Words.{Session, session_of, Registry, station_state, World, world}
 use Rattle.radio_parts_changes.proofs.KilledLemmas.{killed_so}
 use Rattle.radio_parts_changes.proofs.state.ServerState.kill_source.Goals as goal
 

@@ -1,7 +1,5 @@
 use Rattle.std.proofs.Common.{List, ℕ, ap, sym, ◌∙◌}
-use Rattle.radio_parts_changes.specs.Changes.{user_deleted}
-use Rattle.radio_parts_changes.specs.Counts.{counts_by, counts_out}
-use Rattle.radio_parts_station.specs.World.{World}
+use Rattle.radio_parts_changes.proofs.Words.{user_deleted, counts_by, counts_out, World}
 use Rattle.radio_parts_changes.proofs.state.ServerState.obey.Goals as goal
 
 pub returns-in-DeleteUser-clause-counts : goal.returns-in-DeleteUser-clause-counts

@@ -1,6 +1,5 @@
 use Rattle.std.proofs.Common.{List, ℕ, ap, ◌∙◌}
-use Rattle.radio_parts_changes.specs.Changes.{user_added}
-use Rattle.radio_parts_changes.specs.Counts.{counts_out}
+use Rattle.radio_parts_changes.proofs.Words.{user_added, counts_out}
 use Rattle.radio_parts_changes.proofs.state.ServerState.obey_user.Goals as goal
 
 pub returns-clause-counts : goal.returns-clause-counts

@@ -1,8 +1,5 @@
 use Rattle.std.proofs.Common.{sym, subst, arith}
-use Rattle.std.proofs.lemmas.List.{length-map}
-use Rattle.radio_parts_table.specs.Listening.{Listening}
-use Rattle.radio_seats_rows.specs.Seats.{hears_session, with_session_at}
-use Rattle.radio_parts_station.specs.Live.{AreLive}
+use Rattle.radio_parts_changes.proofs.Words.{length-map, Listening, hears_session, with_session_at, AreLive}
 use Rattle.radio_parts_changes.proofs.PreparedSeats.{seats_changed}
 use Rattle.radio_parts_changes.proofs.state.ServerState.open_session.Goals as goal
 

@@ -1,6 +1,5 @@
 use Rattle.std.proofs.Common.{ap}
-use Rattle.radio_parts_station.specs.Registry.{Registry}
-use Rattle.radio_parts_mount.specs.Sessions.{opened}
+use Rattle.radio_parts_changes.proofs.Words.{Registry, opened}
 use Rattle.radio_parts_changes.proofs.BegunSessions.{is_ready, session_begins}
 use Rattle.radio_parts_changes.proofs.state.ServerState.raise.Goals as goal
 

@@ -1,12 +1,5 @@
 use Rattle.std.proofs.Common.{◌≡◌, ◌==◌, false, sym, subst, ◌∙◌}
-use Rattle.std.specs.Prelude.{is_some}
-use Rattle.radio_seats_rows.specs.Seats.{named_at}
-use Rattle.radio_parts_mount.proofs.PreparedLemmas.{idle_released}
-use Rattle.radio_parts_station.proofs.LiveMounts.{heard_alike}
-use Rattle.radio_parts_station.specs.Registry.{station_state}
-use Rattle.radio_parts_station.specs.Live.{AreLive}
-use Rattle.radio_parts_station.specs.Waiting.{heard_at}
-use Rattle.radio_parts_mount.specs.Prepared.{LiveArePrepared}
+use Rattle.radio_parts_changes.proofs.Words.{is_some, named_at, idle_released, heard_alike, station_state, AreLive, heard_at, LiveArePrepared}
 use Rattle.radio_parts_changes.proofs.PreparedSeats.{unheard_idle, unheard_released}
 use Rattle.radio_parts_changes.proofs.state.ServerState.release_idle.Goals as goal
 

@@ -1,11 +1,5 @@
 use Rattle.std.proofs.Common.{Some, refl, ap, sym, ◌∙◌}
-use Rattle.radio_parts_table.specs.Listening.{Listening}
-use Rattle.radio_parts_station.proofs.LiveMounts.{still_live}
-use Rattle.radio_parts_station.specs.Registry.{station_state}
-use Rattle.radio_parts_mount.specs.Sessions.{is_of, titled, with_title}
-use Rattle.radio_parts_mount.proofs.PreparedLemmas.{changed_prepared}
-use Rattle.radio_parts_station.specs.World.{World, world}
-use Rattle.radio_parts_changes.specs.Changes.{on_air}
+use Rattle.radio_parts_changes.proofs.Words.{Listening, still_live, station_state, is_of, titled, with_title, changed_prepared, World, world, on_air}
 use Rattle.radio_parts_changes.proofs.PartChanges.{is_on_air}
 use Rattle.radio_parts_changes.proofs.PreparedSeats.{live_changed}
 use Rattle.radio_parts_changes.proofs.state.ServerState.set_title.Goals as goal

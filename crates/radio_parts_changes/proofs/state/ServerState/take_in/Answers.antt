@@ -1,14 +1,5 @@
 use Rattle.std.proofs.Common.{◌≡◌, refl, ap, sym, subst, arith}
-use Rattle.std.proofs.lemmas.List.{length-map}
-use Rattle.radio_policy.specs.declared.rule.Rule.TheVariants.{Lagged}
-use Rattle.radio_seats_rows.specs.Seats.{finished_if, with_ended}
-use Rattle.radio_parts_table.specs.Listening.{Listening}
-use Rattle.radio_parts_station.proofs.LiveMounts.{still_live}
-use Rattle.radio_parts_station.specs.Live.{AreLive}
-use Rattle.radio_parts_mount.specs.Kept.{longer_kept, kept_fed}
-use Rattle.radio_parts_mount.specs.Sessions.{is_of}
-use Rattle.radio_parts_mount.specs.Timeouts.{lags_behind}
-use Rattle.radio_parts_mount.proofs.PreparedLemmas.{changed_prepared}
+use Rattle.radio_parts_changes.proofs.Words.{length-map, Lagged, finished_if, with_ended, Listening, still_live, AreLive, longer_kept, kept_fed, is_of, lags_behind, changed_prepared}
 use Rattle.radio_parts_changes.proofs.PreparedSeats.{live_changed, seats_changed}
 use Rattle.radio_parts_changes.proofs.state.ServerState.take_in.Goals as goal
 

@@ -1,8 +1,5 @@
 use Rattle.std.proofs.Common.{rules, vec_len, ◌≡◌, ℕ, ◌+◌, [], ◌∷◌, ◌++◌, List, length, refl, ap, sym, subst, ◌∙◌}
-use Rattle.radio_parts_mount.specs.declared.item.MountItem.{MountItem}
-use Rattle.radio_parts_mount.specs.declared.item.MountItem.TheVariants.{Attach}
-use Rattle.radio_parts_mount.specs.declared.list.Grant.{Grant}
-use Rattle.radio_parts_mount.specs.ByLists.{attached_with, granted, session_with, IsListOf}
+use Rattle.radio_parts_mount.proofs.Words.{MountItem, Attach, Grant, attached_with, granted, session_with, IsListOf}
 use Rattle.radio_parts_mount.proofs.ListLemmas.{one_more}
 use Rattle.radio_parts_mount.proofs.list.KeptItems.attach.Goals as goal
 

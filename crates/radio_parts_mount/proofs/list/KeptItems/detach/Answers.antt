@@ -1,9 +1,6 @@
 use Rattle.std.proofs.Common.{rules, ◌≡◌, Bool, ◌+◌, [], ◌∷◌, ◌++◌, List, length, ap, sym, subst}
 use Rattle.std.proofs.lemmas.Fn.{filter_same}
-use Rattle.radio_parts_mount.specs.declared.item.MountItem.{MountItem}
-use Rattle.radio_parts_mount.specs.declared.item.MountItem.TheVariants.{Detach}
-use Rattle.radio_parts_mount.specs.declared.list.Grant.{Grant}
-use Rattle.radio_parts_mount.specs.ByLists.{attached_without, by_list, session_without, without_grant, IsListOf}
+use Rattle.radio_parts_mount.proofs.Words.{MountItem, Detach, Grant, attached_without, by_list, session_without, without_grant, IsListOf}
 use Rattle.radio_parts_mount.proofs.ListLemmas.{one_more}
 use Rattle.radio_parts_mount.proofs.list.KeptItems.detach.Goals as goal
 

@@ -1,7 +1,5 @@
 use Rattle.std.proofs.Common.{List, refl, sym, subst}
-use Rattle.radio_parts_mount.specs.declared.item.MountItem.{MountItem}
-use Rattle.radio_parts_mount.specs.declared.item.MountItem.TheVariants.{Own}
-use Rattle.radio_parts_mount.specs.ByLists.{after_own, IsListOf}
+use Rattle.radio_parts_mount.proofs.Words.{MountItem, Own, after_own, IsListOf}
 use Rattle.radio_parts_mount.proofs.ListLemmas.{one_more}
 use Rattle.radio_parts_mount.proofs.list.KeptItems.own.Goals as goal
 

@@ -1,9 +1,5 @@
 use Rattle.std.proofs.Common.{Some, List, refl, sym, subst}
-use Rattle.std.specs.Option.{option_map}
-use Rattle.radio_parts_mount.specs.Sessions.{with_title}
-use Rattle.radio_parts_mount.specs.declared.item.MountItem.{MountItem}
-use Rattle.radio_parts_mount.specs.declared.item.MountItem.TheVariants.{Titled}
-use Rattle.radio_parts_mount.specs.ByLists.{IsListOf}
+use Rattle.radio_parts_mount.proofs.Words.{option_map, with_title, MountItem, Titled, IsListOf}
 use Rattle.radio_parts_mount.proofs.ListLemmas.{one_more}
 use Rattle.radio_parts_mount.proofs.list.KeptItems.set_title.Goals as goal
 

@@ -1,7 +1,5 @@
 use Rattle.std.proofs.Common.{◌≡◌, ℕ, None, Some, Option, List, refl, sym, subst}
-use Rattle.std.proofs.Math.Logic.{∥∥₁_map}
-use Rattle.radio_parts_mount.specs.Sessions.{Session}
-use Rattle.radio_parts_mount.specs.ByLists.{IsList}
+use Rattle.radio_parts_mount.proofs.Words.{∥∥₁_map, Session, IsList}
 use Rattle.radio_parts_mount.proofs.listed.ListedPart.begin.Goals as goal
 
 pub invariant_of-self-inside-2 : goal.invariant_of-self-inside-2

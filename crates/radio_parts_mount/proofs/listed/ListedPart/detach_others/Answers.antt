@@ -1,9 +1,5 @@
 use Rattle.std.proofs.Common.{Bool, ℕ, List, ap, sym, subst, ◌∙◌}
-use Rattle.std.specs.Prelude.{not}
-use Rattle.std.proofs.Math.Logic.{∥∥₁_map}
-use Rattle.radio_attachments.specs.declared.attachment.Attachment.{Attachment}
-use Rattle.radio_seats_rows.specs.Seats.{sits_at}
-use Rattle.radio_parts_mount.specs.ByLists.{IsList, without_all}
+use Rattle.radio_parts_mount.proofs.Words.{not, ∥∥₁_map, Attachment, sits_at, IsList, without_all}
 use Rattle.radio_parts_mount.proofs.Departures.{left_are_those_who_stay}
 use Rattle.radio_parts_mount.proofs.listed.ListedPart.detach_others.Goals as goal
 

@@ -1,7 +1,5 @@
 use Rattle.std.proofs.Common.{Option, ap, sym, subst, ◌∙◌}
-use Rattle.std.proofs.Math.Logic.{∥∥₁_map}
-use Rattle.radio_parts_mount.specs.Sessions.{Session}
-use Rattle.radio_parts_mount.specs.ByLists.{IsList}
+use Rattle.radio_parts_mount.proofs.Words.{∥∥₁_map, Session, IsList}
 use Rattle.radio_parts_mount.proofs.ListLemmas.{ended}
 use Rattle.radio_parts_mount.proofs.listed.ListedPart.end.Goals as goal
 

@@ -1,8 +1,5 @@
 use Rattle.std.proofs.Common.{List, ap, sym, subst, ◌∙◌}
-use Rattle.std.proofs.Math.Logic.{∥∥₁_map}
-use Rattle.radio_attachments.specs.declared.attachment.Attachment.{Attachment}
-use Rattle.radio_attachments.specs.Rows.{put_in}
-use Rattle.radio_parts_mount.specs.ByLists.{IsList}
+use Rattle.radio_parts_mount.proofs.Words.{∥∥₁_map, Attachment, put_in, IsList}
 use Rattle.radio_parts_mount.proofs.listed.ListedPart.put.Goals as goal
 
 pub invariant_of-self-inside : goal.invariant_of-self-inside

@@ -1,12 +1,5 @@
 use Rattle.std.proofs.Common.{◌≡◌, ℕ, Option, List, sym, subst, ◌∙◌}
-use Rattle.std.proofs.Math.Logic.{∥∥₁_map}
-use Rattle.radio_attachments.specs.declared.attachment.Attachment.{Attachment}
-use Rattle.radio_events.specs.declared.event.Event.{Event}
-use Rattle.radio_parts_mount.specs.Sessions.{Session}
-use Rattle.radio_parts_mount.specs.ByLists.{after_own, part_of, IsList}
-use Rattle.radio_parts_mount.specs.Steps.{part_answers, CanDraw}
-use Rattle.radio_parts_mount.specs.declared.part.MountPart.{MountPart}
-use Rattle.radio_parts_mount.specs.declared.step.PartAnswer.TheVariants.{Replied}
+use Rattle.radio_parts_mount.proofs.Words.{∥∥₁_map, Attachment, Event, Session, after_own, part_of, IsList, part_answers, CanDraw, MountPart, Replied}
 use Rattle.radio_parts_mount.proofs.OwnSteps.{elsewhere_so, replied_so}
 use Rattle.radio_parts_mount.proofs.listed.ListedPart.step_noting.Goals as goal
 

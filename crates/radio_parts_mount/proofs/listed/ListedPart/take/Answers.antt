@@ -1,10 +1,6 @@
 use Rattle.std.proofs.Common.{◌≡◌, false, Option, Some, None, List, refl, sym, subst, ◌∙◌}
-use Rattle.std.proofs.Math.Logic.{∥∥₁_map}
-use Rattle.std.specs.Prelude.{is_some}
-use Rattle.radio_attachments.specs.declared.attachment.Attachment.{Attachment}
-use Rattle.radio_attachments.specs.Rows.{is_attached}
+use Rattle.radio_parts_mount.proofs.Words.{∥∥₁_map, is_some, Attachment, is_attached, IsList}
 use Rattle.radio_seats_rows.proofs.Lists.{none_removed}
-use Rattle.radio_parts_mount.specs.ByLists.{IsList}
 use Rattle.radio_parts_mount.proofs.listed.ListedPart.take.Goals as goal
 
 pub invariant_of-self-inside : goal.invariant_of-self-inside

@@ -1,5 +1,5 @@
 use Rattle.std.proofs.Common.{◌≡◌, length}
-use Rattle.radio_parts_mount.specs.Steps.{with_all}
+use Rattle.radio_parts_mount.proofs.Words.{with_all}
 use Rattle.radio_parts_mount.proofs.part.MountPart.add_lagged.Given as goal
 
 -- once the rest are put in too, all are

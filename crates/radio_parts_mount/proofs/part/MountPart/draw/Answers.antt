@@ -1,10 +1,5 @@
 use Rattle.std.proofs.Common.{◌≡◌, ℕ, Option, List, Result, ap, subst}
-use Rattle.std.specs.declared.alloc.AllocError.{AllocError}
-use Rattle.radio_attachments.specs.declared.attachment.Attachment.{Attachment}
-use Rattle.radio_parts_mount.specs.Sessions.{Session}
-use Rattle.radio_parts_mount.specs.declared.drawing.Portion.{Portion}
-use Rattle.radio_parts_mount.specs.declared.part.MountPart.{MountPart}
-use Rattle.radio_parts_mount.specs.Steps.{IsDrawn}
+use Rattle.radio_parts_mount.proofs.Words.{AllocError, Attachment, Session, Portion, MountPart, IsDrawn}
 use Rattle.radio_parts_mount.proofs.DrawingLemmas.{has_drawn, was_refused, is_absent}
 use Rattle.radio_parts_mount.specs.contracts.drawing.DrawsPlaceVisit.TheImpl.{visits-value as visits}
 use Rattle.radio_parts_mount.proofs.part.MountPart.draw.Goals as goal

@@ -1,6 +1,5 @@
 use Rattle.std.proofs.Common.{Err, ◌≤◌, ap, sym, subst, ◌∙◌, arith}
-use Rattle.radio_parts_mount.specs.Kept.{first_start}
-use Rattle.radio_parts_mount.specs.Stream.{WholeStream, end_of}
+use Rattle.radio_parts_mount.proofs.Words.{first_start, WholeStream, end_of}
 use Rattle.radio_parts_mount.proofs.KeptQueues.{stream_first}
 use Rattle.radio_parts_mount.proofs.stream.Stream.draw.Goals as goal
 

@@ -1,10 +1,5 @@
 use Rattle.std.proofs.Common.{◌≡◌, Option, Some, None, Bor, refl, ap, sym, ◌∙◌}
-use Rattle.std.specs.Prelude.{◌||◌, find, is_some}
-use Rattle.std.specs.Option.{option_copied}
-use Rattle.radio_parts_station.specs.declared.live.LiveMount.{LiveMount}
-use Rattle.radio_parts_station.specs.Registry.{Registry}
-use Rattle.radio_parts_station.specs.Live.{is_live_mount}
-use Rattle.radio_parts_station.specs.Waiting.{is_on_demand}
+use Rattle.radio_parts_station.proofs.Words.{◌||◌, find, is_some, option_copied, LiveMount, Registry, is_live_mount, is_on_demand}
 use Rattle.radio_parts_station.proofs.LiveMounts.{heard_known}
 use Rattle.radio_parts_station.proofs.registry.Registry.can_be_heard.Goals as goal
 

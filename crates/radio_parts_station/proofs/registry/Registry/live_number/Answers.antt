@@ -1,10 +1,5 @@
-use Rattle.std.proofs.Common.{◌≡◌, Option, Some, None, ap, sym, ◌∙◌}
-use Rattle.std.specs.Prelude.{find}
-use Rattle.std.specs.Option.{option_copied}
-use Rattle.radio_parts_station.specs.declared.live.LiveMount.{LiveMount}
-use Rattle.radio_parts_station.specs.Registry.{Registry}
-use Rattle.radio_parts_station.specs.Facts.{live_number}
-use Rattle.radio_parts_station.specs.Live.{bare_station, is_live_mount}
+use Rattle.std.proofs.Common.{Option, Some, None, ap, sym, ◌∙◌}
+use Rattle.radio_parts_station.proofs.Words.{find, option_copied, Registry, live_number, is_live_mount}
 use Rattle.radio_parts_station.proofs.LiveMounts.{number_known}
 use Rattle.radio_parts_station.proofs.registry.Registry.live_number.Goals as goal
 

@@ -1,7 +1,5 @@
 use Rattle.std.proofs.Common.{◌≡◌, List, ap, ◌∙◌}
-use Rattle.radio_parts_station.specs.declared.live.LiveMount.{LiveMount}
-use Rattle.radio_parts_station.specs.Registry.{Registry}
-use Rattle.radio_parts_station.specs.Relays.{Relay, risen, with_relay, put_back}
+use Rattle.radio_parts_station.proofs.Words.{LiveMount, Registry, Relay, risen, with_relay, put_back}
 use Rattle.radio_parts_station.proofs.RelayRows.{restored}
 use Rattle.radio_parts_station.proofs.registry.Registry.raise.Goals as goal
 

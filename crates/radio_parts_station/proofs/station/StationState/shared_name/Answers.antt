@@ -1,7 +1,5 @@
 use Rattle.std.proofs.Common.{◌≡◌, ℕ, Some, List, Result, Ok, Err, IfOk, MatchResult, ap, sym, ◌∙◌}
-use Rattle.std.specs.Option.{option_copied}
-use Rattle.radio_parts_mount.specs.Sessions.{Session, session_of}
-use Rattle.radio_parts_mount.proofs.SessionLookups.{found_named}
+use Rattle.radio_parts_station.proofs.Words.{option_copied, Session, session_of, found_named}
 use Rattle.radio_parts_station.proofs.station.StationState.shared_name.Goals as goal
 
 -- an equal name is named alike

@@ -1,11 +1,7 @@
 use Rattle.std.proofs.Common.{ap, sym, ◌∙◌}
-use Rattle.std.specs.Option.{option_copied}
-use Rattle.radio_fallback.specs.Walk.{Sight, found_at, landing}
+use Rattle.radio_parts_station.proofs.Words.{option_copied, Sight, found_at, landing, ends_in, sight_of, walks_to, sight_in}
 use Rattle.radio_fallback.proofs.EndLemmas.{landing_same}
-use Rattle.radio_parts_mount.specs.StatePart.{ends_in}
-use Rattle.radio_parts_station.specs.Facts.{sight_of, walks_to}
 use Rattle.radio_parts_station.specs.StationState.{StationState}
-use Rattle.radio_parts_station.specs.Live.{sight_in}
 use Rattle.radio_parts_station.proofs.LiveMounts.{same_sight}
 use Rattle.radio_parts_station.proofs.station.StationState.walk_from.Goals as goal
 

@@ -1,8 +1,5 @@
 use Rattle.std.proofs.Common.{refl, ap, sym, subst, ◌∙◌}
-use Rattle.radio_fallback.specs.Heard.{GoesOff}
-use Rattle.radio_parts_table.specs.Parts.{ByMount, has_part}
-use Rattle.radio_parts_table.specs.Attached.{places_in}
-use Rattle.radio_parts_mount.specs.Attached.{without_id}
+use Rattle.radio_parts_table.proofs.Words.{GoesOff, ByMount, has_part, places_in, without_id}
 use Rattle.radio_parts_table.proofs.ByMountLemmas.{detached_others, goes_off, part_stays}
 use Rattle.radio_parts_table.proofs.attachments.MountPartsAttachments.detach.Goals as goal
 

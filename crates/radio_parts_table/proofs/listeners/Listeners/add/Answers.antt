@@ -1,10 +1,5 @@
 use Rattle.std.proofs.Common.{◌≡◌, ℕ, true, None, List, ap, sym, subst, ◌∙◌}
-use Rattle.radio_seats_rows.specs.SeatTable.{SeatTable, is_prepared}
-use Rattle.radio_seats_rows.specs.Seats.{last_mount_of, with_seat}
-use Rattle.radio_fallback.specs.Heard.{heard}
-use Rattle.radio_parts_table.specs.Listening.{AreAttached, Listening}
-use Rattle.radio_parts_table.specs.Attached.{places_in}
-use Rattle.radio_parts_table.specs.Parts.{ByMount}
+use Rattle.radio_parts_table.proofs.Words.{SeatTable, is_prepared, last_mount_of, with_seat, heard, AreAttached, Listening, places_in, ByMount}
 use Rattle.radio_parts_table.proofs.FitsChanges.{IsAnew, attached_anew, is_detached, seated_fits}
 use Rattle.radio_parts_table.proofs.ListenersLemmas.{has_sat, same_listening}
 use Rattle.radio_parts_table.proofs.listeners.Listeners.add.Goals as goal

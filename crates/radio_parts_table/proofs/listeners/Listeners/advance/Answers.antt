@@ -1,12 +1,5 @@
 use Rattle.std.proofs.Common.{◌≡◌, Some, None, List, ap, sym, subst, ◌∙◌}
-use Rattle.std.specs.Option.{option_map}
-use Rattle.radio_seats.specs.Lent.{lent_seat}
-use Rattle.radio_seats_rows.specs.SeatTable.{SeatTable}
-use Rattle.radio_seats_rows.specs.declared.seat.Listener.{Listener}
-use Rattle.radio_seats_rows.specs.Seats.{seat_of, with_place}
-use Rattle.radio_fallback.specs.Heard.{heard}
-use Rattle.radio_parts_table.specs.Listening.{AreAttached, Listening}
-use Rattle.radio_parts_table.specs.Attached.{places_in}
+use Rattle.radio_parts_table.proofs.Words.{option_map, lent_seat, SeatTable, Listener, seat_of, with_place, heard, AreAttached, Listening, places_in}
 use Rattle.radio_parts_table.proofs.ListenersLemmas.{no_place, same_listening}
 use Rattle.radio_parts_table.proofs.PlaceNotes.{after_note, noted_fits}
 use Rattle.radio_parts_table.proofs.listeners.Listeners.advance.Goals as goal

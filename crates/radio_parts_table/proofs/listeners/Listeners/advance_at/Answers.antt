@@ -1,9 +1,5 @@
 use Rattle.std.proofs.Common.{ℕ, List, ap, sym, subst, ◌∙◌}
-use Rattle.radio_seats_rows.specs.SeatTable.{SeatTable}
-use Rattle.radio_seats_rows.specs.Seats.{sits_at, with_place}
-use Rattle.radio_fallback.specs.Heard.{heard, GoesOver, IsAt}
-use Rattle.radio_parts_table.specs.Listening.{AreAttached, Listening}
-use Rattle.radio_parts_table.specs.Attached.{places_in}
+use Rattle.radio_parts_table.proofs.Words.{SeatTable, sits_at, with_place, heard, GoesOver, IsAt, AreAttached, Listening, places_in}
 use Rattle.radio_parts_table.proofs.ListenersLemmas.{its_seat, same_listening}
 use Rattle.radio_parts_table.proofs.PlaceNotes.{after_note, noted_fits}
 use Rattle.radio_parts_table.proofs.listeners.Listeners.advance_at.Goals as goal

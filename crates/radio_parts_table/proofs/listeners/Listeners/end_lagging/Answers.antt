@@ -1,17 +1,5 @@
 use Rattle.std.proofs.Common.{◌≡◌, ℕ, Bool, List, ap, sym, subst, ◌∙◌}
-use Rattle.std.specs.Prelude.{map}
-use Rattle.radio_attachments.specs.declared.attachment.Attachment.{Attachment}
-use Rattle.radio_parts_mount.specs.Timeouts.{lags_behind}
-use Rattle.radio_policy.specs.declared.rule.Rule.TheVariants.{Lagged}
-use Rattle.radio_seats_rows.specs.SeatTable.{SeatTable}
-use Rattle.radio_seats_rows.specs.Seats.{with_ended}
-use Rattle.radio_fallback.specs.Heard.{heard}
-use Rattle.radio_parts_table.specs.Listening.{AreAttached, Listening}
-use Rattle.radio_parts_table.specs.Attached.{places_in}
-use Rattle.radio_parts_table.specs.Losses.{ended_if_lost}
-use Rattle.radio_parts_mount.specs.Attached.{is_among}
-use Rattle.radio_parts_table.specs.Parts.{ByMount}
-use Rattle.radio_parts_mount.specs.Parts.{MountAttachments}
+use Rattle.radio_parts_table.proofs.Words.{map, Attachment, lags_behind, Lagged, SeatTable, with_ended, heard, AreAttached, Listening, places_in, ended_if_lost, is_among, ByMount, MountAttachments}
 use Rattle.radio_parts_table.proofs.FitsChanges.{after_losses, lost_fits}
 use Rattle.radio_parts_table.proofs.LaggingLemmas.{far, lost, later, is_lost, places_there, places_elsewhere, parts_stay}
 use Rattle.radio_parts_table.proofs.ListenersLemmas.{have_lagged, same_listening}

@@ -1,12 +1,5 @@
 use Rattle.std.proofs.Common.{refl, ap, sym, subst, ◌∙◌}
-use Rattle.std.specs.List.Sorted.{IsStrictlySortedBy}
-use Rattle.std.specs.Ordering.{nat_cmp}
-use Rattle.radio_fallback.proofs.HeardLemmas.{numbers_heard}
-use Rattle.radio_parts_table.specs.Attached.{places_in}
-use Rattle.radio_parts_mount.specs.Timeouts.{lags_behind}
-use Rattle.radio_policy.specs.declared.rule.Rule.TheVariants.{Lagged}
-use Rattle.radio_seats_rows.specs.Seats.{AreByNumber}
-use Rattle.radio_parts_table.specs.Listening.{Listening}
+use Rattle.radio_parts_table.proofs.Words.{IsStrictlySortedBy, nat_cmp, numbers_heard, places_in, lags_behind, Lagged, AreByNumber, Listening}
 use Rattle.radio_parts_table.proofs.LaggingTurns.{fewer_turns, turns_begin, turns_end, turns_go_on}
 use Rattle.radio_parts_table.proofs.ListenersLemmas.{same_listening}
 use Rattle.radio_parts_table.proofs.listeners.Listeners.end_lagging_sitters.Goals as goal

@@ -1,8 +1,5 @@
 use Rattle.std.proofs.Common.{◌≡◌, length}
-use Rattle.radio_fallback.specs.Carry.{numbers_past}
-use Rattle.radio_parts_mount.specs.Timeouts.{lags_behind}
-use Rattle.radio_policy.specs.declared.rule.Rule.TheVariants.{Lagged}
-use Rattle.radio_seats_rows.specs.Seats.{with_ended}
+use Rattle.radio_parts_table.proofs.Words.{numbers_past, lags_behind, Lagged, with_ended}
 use Rattle.radio_parts_table.proofs.LaggingTurns.{turns}
 use Rattle.radio_parts_table.proofs.listeners.Listeners.end_lagging_sitters.Given as goal
 

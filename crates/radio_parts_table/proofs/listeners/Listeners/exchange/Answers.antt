@@ -1,15 +1,5 @@
 use Rattle.std.proofs.Common.{◌≡◌, [], List, not, ap, sym, subst, ◌∙◌}
-use Rattle.std.specs.Prelude.{filter, map}
-use Rattle.radio_attachments.specs.declared.attachment.Attachment.{Attachment}
-use Rattle.radio_policy.specs.declared.rule.Rule.TheVariants.{Lagged}
-use Rattle.radio_seats_rows.specs.SeatTable.{SeatTable, is_prepared}
-use Rattle.radio_seats_rows.specs.Seats.{sits_at}
-use Rattle.radio_parts_mount.specs.Attached.{is_among}
-use Rattle.radio_parts_mount.specs.declared.part.MountPart.{MountPart}
-use Rattle.radio_parts_table.specs.Exchange.{IsExchanged, IsUnfit}
-use Rattle.radio_parts_table.specs.Listening.{Listening, listening}
-use Rattle.radio_parts_table.specs.Lent.{IsLent}
-use Rattle.radio_parts_table.specs.Losses.{ended_if_lost}
+use Rattle.radio_parts_table.proofs.Words.{filter, map, Attachment, Lagged, SeatTable, is_prepared, sits_at, is_among, MountPart, IsExchanged, IsUnfit, Listening, listening, IsLent, ended_if_lost}
 use Rattle.radio_parts_table.proofs.LentLemmas.{has_part_still, is_lent}
 use Rattle.radio_parts_table.proofs.listeners.Listeners.exchange.Goals as goal
 use Rattle.radio_parts_table.proofs.listeners.Listeners.exchange.Goals.{After-end_each}

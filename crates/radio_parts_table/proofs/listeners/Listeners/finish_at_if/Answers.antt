@@ -1,13 +1,5 @@
 use Rattle.std.proofs.Common.{◌≡◌, ℕ, None, List, refl, ap, sym, subst, ◌∙◌}
-use Rattle.std.specs.Prelude.{if◌then◌else◌}
-use Rattle.radio_seats_rows.specs.SeatTable.{SeatTable}
-use Rattle.radio_seats_rows.specs.Guests.{passes_at}
-use Rattle.radio_seats_rows.specs.Rests.{how_many}
-use Rattle.radio_seats_rows.specs.Seats.{AreByNumber, sits_at, with_ended}
-use Rattle.radio_seats_rows.specs.declared.seat.Listener.{Listener}
-use Rattle.radio_fallback.specs.Heard.{heard}
-use Rattle.radio_parts_table.specs.Listening.{AreAttached, Listening}
-use Rattle.radio_parts_table.specs.Attached.{places_in}
+use Rattle.radio_parts_table.proofs.Words.{if◌then◌else◌, SeatTable, passes_at, how_many, AreByNumber, sits_at, with_ended, Listener, heard, AreAttached, Listening, places_in}
 use Rattle.radio_parts_table.proofs.FitsChanges.{tested_fits}
 use Rattle.radio_parts_table.proofs.ListenersLemmas.{have_tested, how_many_heard, same_listening}
 use Rattle.radio_parts_table.proofs.listeners.Listeners.finish_at_if.Goals as goal

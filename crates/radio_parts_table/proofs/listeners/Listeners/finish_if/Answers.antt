@@ -1,10 +1,5 @@
 use Rattle.std.proofs.Common.{◌<◌, ap, sym, subst, ◌∙◌}
-use Rattle.radio_seats_rows.specs.Guests.{passes_in}
-use Rattle.radio_seats_rows.specs.Rests.{how_many}
-use Rattle.radio_seats_rows.specs.Seats.{with_ended}
-use Rattle.radio_seats.proofs.RowLemmas.{all_have_ended, end_at_one, fewer_left}
-use Rattle.radio_parts_table.specs.Listening.{Listening}
-use Rattle.radio_parts_table.specs.Listening.{Listening}
+use Rattle.radio_parts_table.proofs.Words.{passes_in, how_many, with_ended, all_have_ended, end_at_one, fewer_left, Listening, Listening}
 use Rattle.radio_parts_table.proofs.ListenersLemmas.{same_listening}
 use Rattle.radio_parts_table.proofs.listeners.Listeners.finish_if.Goals as goal
 

@@ -1,7 +1,5 @@
 use Rattle.std.proofs.Common.{◌≡◌}
-use Rattle.radio_seats_rows.specs.Guests.{passes_in}
-use Rattle.radio_seats_rows.specs.Rests.{how_many}
-use Rattle.radio_seats_rows.specs.Seats.{with_ended}
+use Rattle.radio_parts_table.proofs.Words.{passes_in, how_many, with_ended}
 use Rattle.radio_parts_table.proofs.listeners.Listeners.finish_if.Given as goal
 
 -- where the rest end too, all have ended

@@ -1,9 +1,5 @@
 use Rattle.std.proofs.Common.{◌≡◌, ◌<◌, subst}
-use Rattle.std.specs.Prelude.{MatchOption}
-use Rattle.radio_seats_rows.specs.Guests.{passes_in, passes_at}
-use Rattle.radio_seats_rows.specs.Rests.{how_many}
-use Rattle.radio_parts_table.specs.Attached.{places_in}
-use Rattle.radio_parts_table.specs.Listening.{Listening}
+use Rattle.radio_parts_table.proofs.Words.{MatchOption, passes_in, passes_at, how_many, places_in, Listening}
 use Rattle.radio_parts_table.proofs.ListenersLemmas.{some_heard}
 use Rattle.radio_parts_table.proofs.listeners.Listeners.first_mount_where.Goals as goal
 

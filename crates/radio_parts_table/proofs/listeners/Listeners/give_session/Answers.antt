@@ -1,9 +1,5 @@
 use Rattle.std.proofs.Common.{refl, ap, sym, subst, ◌∙◌}
-use Rattle.radio_seats_rows.specs.SeatTable.{SeatTable}
-use Rattle.radio_seats_rows.specs.Seats.{with_session_at}
-use Rattle.radio_fallback.specs.Heard.{heard}
-use Rattle.radio_parts_table.specs.Listening.{AreAttached, Listening}
-use Rattle.radio_parts_table.specs.Attached.{places_in}
+use Rattle.radio_parts_table.proofs.Words.{SeatTable, with_session_at, heard, AreAttached, Listening, places_in}
 use Rattle.radio_parts_table.proofs.FitsChanges.{fits_alike, given_sits}
 use Rattle.radio_parts_table.proofs.HeardChanges.{given_heard}
 use Rattle.radio_parts_table.proofs.ListenersLemmas.{same_listening}

@@ -1,8 +1,5 @@
 use Rattle.std.proofs.Common.{◌≡◌, List, ap, sym, subst, ◌∙◌}
-use Rattle.std.specs.Prelude.{IfOk, map}
-use Rattle.radio_seats.specs.Listed.{ListedGuest, lent_guest, guests_at}
-use Rattle.radio_parts_table.specs.Attached.{places_in}
-use Rattle.radio_parts_table.specs.Listening.{Listening}
+use Rattle.radio_parts_table.proofs.Words.{IfOk, map, ListedGuest, lent_guest, guests_at, places_in, Listening}
 use Rattle.radio_parts_table.proofs.HeardReads.{guests_heard}
 use Rattle.radio_parts_table.proofs.listeners.Listeners.guests_at.Goals as goal
 

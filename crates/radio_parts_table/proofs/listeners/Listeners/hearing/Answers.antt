@@ -1,13 +1,5 @@
 use Rattle.std.proofs.Common.{◌≡◌, Some, None, ap, sym, ◌∙◌}
-use Rattle.std.specs.Prelude.{unwrap_or}
-use Rattle.std.specs.Option.{option_map}
-use Rattle.radio_parts_mount.specs.Sessions.{session_of}
-use Rattle.radio_seats_rows.specs.declared.seat.Seat.{Seat}
-use Rattle.radio_seats_rows.specs.Guests.{seat_of_guest}
-use Rattle.radio_seats_rows.specs.Seats.{seat_of}
-use Rattle.radio_seats.specs.Lent.{lent_seat}
-use Rattle.radio_parts_table.specs.Attached.{places_in}
-use Rattle.radio_parts_table.specs.Listening.{Listening}
+use Rattle.radio_parts_table.proofs.Words.{unwrap_or, option_map, session_of, Seat, seat_of_guest, seat_of, lent_seat, places_in, Listening}
 use Rattle.radio_parts_table.proofs.HeardReads.{heard_seat, seat_heard}
 use Rattle.radio_parts_table.proofs.listeners.Listeners.hearing.Goals as goal
 

@@ -1,7 +1,5 @@
 use Rattle.std.proofs.Common.{ap, sym, ◌∙◌}
-use Rattle.radio_seats_rows.specs.Seats.{last_mount_of}
-use Rattle.radio_parts_table.specs.Attached.{places_in}
-use Rattle.radio_parts_table.specs.Listening.{Listening}
+use Rattle.radio_parts_table.proofs.Words.{last_mount_of, places_in, Listening}
 use Rattle.radio_parts_table.proofs.HeardReads.{last_heard}
 use Rattle.radio_parts_table.proofs.listeners.Listeners.last_mount.Goals as goal
 

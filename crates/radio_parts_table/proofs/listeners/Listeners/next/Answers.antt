@@ -1,10 +1,5 @@
 use Rattle.std.proofs.Common.{ap, sym, subst, ◌∙◌}
-use Rattle.std.specs.List.Sorted.{IsStrictlySortedBy}
-use Rattle.std.specs.Ordering.{nat_cmp}
-use Rattle.radio_seats_rows.specs.Seats.{next_number, AreByNumber}
-use Rattle.radio_fallback.proofs.HeardLemmas.{numbers_heard}
-use Rattle.radio_parts_table.specs.Attached.{places_in}
-use Rattle.radio_parts_table.specs.Listening.{Listening}
+use Rattle.radio_parts_table.proofs.Words.{IsStrictlySortedBy, nat_cmp, next_number, AreByNumber, numbers_heard, places_in, Listening}
 use Rattle.radio_parts_table.proofs.LaggingTurns.{next_heard}
 use Rattle.radio_parts_table.proofs.listeners.Listeners.next.Goals as goal
 

@@ -1,10 +1,5 @@
 use Rattle.std.proofs.Common.{ℕ, ◌==◌, not, ap, sym, ◌∙◌}
-use Rattle.std.specs.Prelude.{◌&&◌}
-use Rattle.std.specs.Str.{bytes_eq}
-use Rattle.radio_seats_rows.specs.SeatTable.{is_prepared}
-use Rattle.radio_seats_rows.specs.Seats.{named_at}
-use Rattle.radio_parts_table.specs.Attached.{places_in}
-use Rattle.radio_parts_table.specs.Listening.{Listening}
+use Rattle.radio_parts_table.proofs.Words.{◌&&◌, bytes_eq, is_prepared, named_at, places_in, Listening}
 use Rattle.radio_parts_table.proofs.HeardReads.{named_heard}
 use Rattle.radio_parts_table.proofs.listeners.Listeners.release.Goals as goal
 

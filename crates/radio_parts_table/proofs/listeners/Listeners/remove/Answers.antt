@@ -1,10 +1,5 @@
 use Rattle.std.proofs.Common.{◌≡◌, ℕ, true, None, List, ap, sym, subst, ◌∙◌}
-use Rattle.radio_seats_rows.specs.SeatTable.{SeatTable}
-use Rattle.radio_seats_rows.specs.Seats.{last_mount_of, without_listener}
-use Rattle.radio_fallback.specs.Heard.{heard}
-use Rattle.radio_parts_table.specs.Listening.{AreAttached, Listening}
-use Rattle.radio_parts_table.specs.Attached.{places_in}
-use Rattle.radio_parts_table.specs.Parts.{ByMount}
+use Rattle.radio_parts_table.proofs.Words.{SeatTable, last_mount_of, without_listener, heard, AreAttached, Listening, places_in, ByMount}
 use Rattle.radio_parts_table.proofs.FitsChanges.{is_detached, left_fits}
 use Rattle.radio_parts_table.proofs.ListenersLemmas.{has_left, same_listening}
 use Rattle.radio_parts_table.proofs.listeners.Listeners.remove.Goals as goal

@@ -1,8 +1,5 @@
 use Rattle.std.proofs.Common.{ap, sym, ◌∙◌}
-use Rattle.radio_seats_rows.specs.Seats.{listener_of}
-use Rattle.radio_seats.specs.Lent.{standing_in}
-use Rattle.radio_parts_table.specs.Attached.{places_in}
-use Rattle.radio_parts_table.specs.Listening.{Listening}
+use Rattle.radio_parts_table.proofs.Words.{listener_of, standing_in, places_in, Listening}
 use Rattle.radio_parts_table.proofs.HeardReads.{standing_heard}
 use Rattle.radio_parts_table.proofs.listeners.Listeners.standing.Goals as goal
 

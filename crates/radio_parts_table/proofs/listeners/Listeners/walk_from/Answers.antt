@@ -1,9 +1,6 @@
 use Rattle.std.proofs.Common.{ap, sym, ◌∙◌}
-use Rattle.std.specs.Option.{option_copied}
+use Rattle.radio_parts_table.proofs.Words.{option_copied, found_heard, landing_heard, places_in, Listening}
 use Rattle.radio_fallback.specs.Walk.{found_at, landing}
-use Rattle.radio_fallback.proofs.HeardLemmas.{found_heard, landing_heard}
-use Rattle.radio_parts_table.specs.Attached.{places_in}
-use Rattle.radio_parts_table.specs.Listening.{Listening}
 use Rattle.radio_parts_table.proofs.listeners.Listeners.walk_from.Goals as goal
 
 pub returns-clause-first : goal.returns-clause-first

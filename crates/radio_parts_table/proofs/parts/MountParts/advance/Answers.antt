@@ -1,10 +1,5 @@
 use Rattle.std.proofs.Common.{◌≡◌, ℕ, refl, ap, sym, subst, ◌∙◌}
-use Rattle.radio_tables.specs.Lists.{update_first}
-use Rattle.radio_fallback.specs.Heard.{IsAt, GoesOver}
-use Rattle.radio_parts_table.specs.Parts.{ByMount, by_mount_of, has_part}
-use Rattle.radio_parts_mount.specs.Parts.{is_part_of}
-use Rattle.radio_parts_table.specs.Attached.{places_in, with_attached}
-use Rattle.radio_parts_mount.specs.Attached.{advanced_there, on_part}
+use Rattle.radio_parts_table.proofs.Words.{update_first, IsAt, GoesOver, ByMount, by_mount_of, has_part, is_part_of, places_in, with_attached, advanced_there, on_part}
 use Rattle.radio_parts_table.proofs.ByMountChanges.{advanced_in, advanced_others, advanced_place, advanced_over}
 use Rattle.radio_parts_table.proofs.ByMountLemmas.{part_stays}
 use Rattle.radio_parts_table.proofs.PartLemmas.{AreWhole}

@@ -1,7 +1,5 @@
 use Rattle.std.proofs.Common.{Some, refl, ap, ◌∙◌}
-use Rattle.radio_parts_table.specs.Parts.{ByMount, has_part}
-use Rattle.radio_parts_table.specs.Attached.{places_in}
-use Rattle.radio_parts_mount.specs.Attached.{with_boxed}
+use Rattle.radio_parts_table.proofs.Words.{ByMount, has_part, places_in, with_boxed}
 use Rattle.radio_parts_table.proofs.ByMountChanges.{attached_others, attached_at, attached_elsewhere}
 use Rattle.radio_parts_table.proofs.ByMountLemmas.{part_stays}
 use Rattle.radio_parts_table.proofs.parts.MountParts.attach.Goals as goal

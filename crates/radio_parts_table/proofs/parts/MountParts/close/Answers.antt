@@ -1,6 +1,5 @@
 use Rattle.std.proofs.Common.{ap, sym, subst, ◌∙◌}
-use Rattle.radio_parts_mount.specs.Sessions.{without_session}
-use Rattle.radio_parts_table.specs.Parts.{ByMount, by_mount_of, with_live}
+use Rattle.radio_parts_table.proofs.Words.{without_session, ByMount, by_mount_of, with_live}
 use Rattle.radio_parts_table.proofs.PartLemmas.{AreWhole, ended_whole, ended_shown}
 use Rattle.radio_parts_table.proofs.parts.MountParts.close.Goals as goal
 

@@ -1,7 +1,5 @@
 use Rattle.std.proofs.Common.{◌≡◌, refl, ap, sym, subst, ◌∙◌}
-use Rattle.radio_parts_table.specs.Parts.{ByMount, by_mount_of, has_part}
-use Rattle.radio_parts_table.specs.Attached.{places_in, with_attached}
-use Rattle.radio_parts_mount.specs.Attached.{with_sitters}
+use Rattle.radio_parts_table.proofs.Words.{ByMount, by_mount_of, has_part, places_in, with_attached, with_sitters}
 use Rattle.radio_parts_table.proofs.ByMountChanges.{left_there, left_at, left_elsewhere}
 use Rattle.radio_parts_table.proofs.ByMountLemmas.{part_stays}
 use Rattle.radio_parts_table.proofs.PartLemmas.{AreWhole}

@@ -1,12 +1,5 @@
 use Rattle.std.proofs.Common.{ℕ, false, List, ap, sym, subst, ◌∙◌}
-use Rattle.std.specs.Prelude.{find}
-use Rattle.std.specs.Option.{option_map_or}
-use Rattle.radio_tables.specs.Lists.{update_first}
-use Rattle.radio_parts_table.specs.Exchange.{IsExchanged, IsUnfit, can_replace, left_for, put_for}
-use Rattle.radio_parts_table.specs.declared.exchange.PartSwap.{PartSwap}
-use Rattle.radio_parts_table.specs.Parts.{ByMount, by_mount_of}
-use Rattle.radio_parts_mount.specs.Parts.{is_part_of}
-use Rattle.radio_parts_mount.specs.declared.part.MountPart.{MountPart}
+use Rattle.radio_parts_table.proofs.Words.{find, option_map_or, update_first, IsExchanged, IsUnfit, can_replace, left_for, put_for, PartSwap, ByMount, by_mount_of, is_part_of, MountPart}
 use Rattle.radio_parts_table.proofs.ExchangeLemmas.{put_in_place, was_not_put, was_put, was_unfit, whole_after}
 use Rattle.radio_parts_table.proofs.PartLemmas.{AreWhole}
 use Rattle.radio_parts_table.proofs.parts.MountParts.exchange.Goals as goal

@@ -1,6 +1,5 @@
 use Rattle.std.proofs.Common.{ap, ◌∙◌}
-use Rattle.radio_parts_mount.specs.Due.{earliest, last_moment, session_due}
-use Rattle.radio_parts_table.specs.Parts.{ByMount}
+use Rattle.radio_parts_table.proofs.Words.{earliest, last_moment, session_due, ByMount}
 use Rattle.radio_parts_table.proofs.AskedSessions.{earliest_in}
 use Rattle.radio_parts_table.proofs.parts.MountParts.first_session_due.Goals as goal
 

@@ -1,8 +1,5 @@
 use Rattle.std.proofs.Common.{ap, sym, subst, ◌∙◌}
-use Rattle.std.specs.Prelude.{find}
-use Rattle.std.specs.Option.{option_copied}
-use Rattle.radio_parts_mount.specs.Timeouts.{is_silent}
-use Rattle.radio_parts_table.specs.Parts.{ByMount}
+use Rattle.radio_parts_table.proofs.Words.{find, option_copied, is_silent, ByMount}
 use Rattle.radio_parts_table.proofs.LiveLemmas.{LiveRises, live_rises}
 use Rattle.radio_parts_table.proofs.AskedSessions.{first_in, session_in}
 use Rattle.radio_parts_table.proofs.parts.MountParts.first_silent.Goals as goal

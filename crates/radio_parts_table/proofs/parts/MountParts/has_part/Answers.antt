@@ -1,7 +1,5 @@
 use Rattle.std.proofs.Common.{◌≡◌, Option, refl, ap, ◌∙◌}
-use Rattle.std.specs.Prelude.{is_some}
-use Rattle.std.specs.Option.{option_copied}
-use Rattle.radio_parts_table.specs.Parts.{ByMount, has_part}
+use Rattle.radio_parts_table.proofs.Words.{is_some, ByMount, has_part}
 use Rattle.radio_parts_table.proofs.PartLemmas.{has_its_part}
 use Rattle.radio_parts_table.proofs.parts.MountParts.has_part.Goals as goal
 

@@ -1,9 +1,5 @@
 use Rattle.std.proofs.Common.{◌≡◌, ℕ, ◌+◌, ◌-◌, ◌<◌, ◌≤◌, ◌^◌, false, true, Option, Some, None, sym, subst, ◌∙◌, arith}
-use Rattle.std.specs.Prelude.{nat_lt, is_some, SomeIff}
-use Rattle.std.proofs.lemmas.Bool.Decides.{nat_tests}
-use Rattle.radio_parts_mount.specs.StatePart.{ends_in}
-use Rattle.radio_parts_mount.proofs.FurthestLemmas.{end_within}
-use Rattle.radio_parts_table.specs.Parts.{ByMount, live_in}
+use Rattle.radio_parts_table.proofs.Words.{nat_lt, is_some, SomeIff, nat_tests, ends_in, end_within, ByMount, live_in}
 use Rattle.radio_parts_table.proofs.parts.MountParts.is_spent_by.Goals as goal
 
 -- what fits behind the furthest end fits behind each

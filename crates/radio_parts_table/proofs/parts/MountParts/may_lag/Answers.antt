@@ -1,13 +1,5 @@
 use Rattle.std.proofs.Common.{◌≡◌, ℕ, false, [], Option, Some, None, List, ap, sym, subst, ◌∙◌}
-use Rattle.std.specs.Prelude.{find}
-use Rattle.std.specs.Option.{option_copied, option_map}
-use Rattle.radio_attachments.specs.declared.attachment.Attachment.{Attachment}
-use Rattle.radio_attachments.specs.Rows.{lags, AreInOrder}
-use Rattle.radio_tables.specs.Lists.{Each}
-use Rattle.radio_parts_mount.specs.declared.part.MountPart.{MountPart}
-use Rattle.radio_parts_table.specs.Parts.{ByMount, by_mount_of}
-use Rattle.radio_parts_mount.specs.Parts.{attached_to, is_part_of}
-use Rattle.radio_parts_table.specs.Attached.{is_of_mount, attachments_in}
+use Rattle.radio_parts_table.proofs.Words.{find, option_copied, option_map, Attachment, lags, AreInOrder, Each, MountPart, ByMount, by_mount_of, attached_to, is_part_of, is_of_mount, attachments_in}
 use Rattle.radio_parts_table.proofs.PartAttachments.{found_through}
 use Rattle.radio_parts_table.proofs.parts.MountParts.may_lag.Goals as goal
 use Rattle.radio_parts_table.proofs.parts.MountParts.may_lag.Goals.{After-may_lag, In-None}

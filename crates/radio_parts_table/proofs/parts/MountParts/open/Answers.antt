@@ -1,8 +1,5 @@
 use Rattle.std.proofs.Common.{◌≡◌, ℕ, true, List, Some, ap, ◌∙◌}
-use Rattle.radio_tables.specs.Lists.{update_first}
-use Rattle.radio_parts_mount.specs.Sessions.{with_session}
-use Rattle.radio_parts_table.specs.Parts.{ByMount, by_mount_of, has_part, attached_in, with_live}
-use Rattle.radio_parts_mount.specs.Parts.{is_part_of, with_session_in}
+use Rattle.radio_parts_table.proofs.Words.{update_first, with_session, ByMount, by_mount_of, has_part, attached_in, with_live, is_part_of, with_session_in}
 use Rattle.radio_parts_table.proofs.PartLemmas.{begun_whole, begun_shown}
 use Rattle.radio_parts_table.proofs.parts.MountParts.open.Goals as goal
 use Rattle.radio_parts_table.proofs.parts.MountParts.open.Goals.{Joined-swap}

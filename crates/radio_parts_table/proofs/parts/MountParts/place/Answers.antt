@@ -1,5 +1,5 @@
 use Rattle.std.proofs.Common.{Some, None, ap, sym, ◌∙◌}
-use Rattle.std.specs.Option.{option_copied}
+use Rattle.radio_parts_table.proofs.Words.{option_copied}
 use Rattle.radio_parts_table.proofs.PlaceLemmas.{place_seen}
 use Rattle.radio_parts_table.proofs.parts.MountParts.place.Goals as goal
 

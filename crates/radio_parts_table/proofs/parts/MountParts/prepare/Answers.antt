@@ -1,11 +1,5 @@
 use Rattle.std.proofs.Common.{◌≡◌, ℕ, [], Some, None, List, Option, false, refl, ap, sym, subst, ◌∙◌}
-use Rattle.std.specs.Prelude.{find, is_some}
-use Rattle.radio_tables.specs.Lists.{placed}
-use Rattle.radio_tables.proofs.FindLaws.{passes_none}
-use Rattle.radio_parts_mount.specs.declared.part.MountPart.{MountPart}
-use Rattle.radio_parts_table.specs.Parts.{ByMount, attached_in, has_part, live_in}
-use Rattle.radio_parts_mount.specs.Parts.{MountAttachments, is_part_of}
-use Rattle.radio_parts_table.specs.Attached.{is_of_mount, places_in}
+use Rattle.radio_parts_table.proofs.Words.{find, is_some, placed, passes_none, MountPart, ByMount, attached_in, has_part, live_in, MountAttachments, is_part_of, is_of_mount, places_in}
 use Rattle.radio_parts_table.proofs.ByMountChanges.{no_part, part_more, places_prepared, with_mount}
 use Rattle.radio_parts_table.proofs.LiveLemmas.{part_added}
 use Rattle.radio_parts_table.proofs.PartLemmas.{AreWhole, has_its_part}

@@ -1,8 +1,5 @@
 use Rattle.std.proofs.Common.{refl, ap, sym, subst, ◌∙◌}
-use Rattle.radio_tables.specs.Lists.{update_first}
-use Rattle.radio_parts_table.specs.Parts.{ByMount, by_mount_of}
-use Rattle.radio_parts_table.specs.Attached.{is_of_mount, with_attached}
-use Rattle.radio_parts_mount.specs.Attached.{with_boxed}
+use Rattle.radio_parts_table.proofs.Words.{update_first, ByMount, by_mount_of, is_of_mount, with_attached, with_boxed}
 use Rattle.radio_parts_table.proofs.PartLemmas.{AreWhole}
 use Rattle.radio_parts_table.proofs.PartAttachments.{attachments_shown, attachments_whole}
 use Rattle.radio_parts_table.proofs.parts.MountParts.put.Goals as goal

@@ -1,14 +1,5 @@
 use Rattle.std.proofs.Common.{◌≡◌, ℕ, Option, List, refl, ap, sym, subst, ◌∙◌}
-use Rattle.std.specs.Prelude.{find}
-use Rattle.std.specs.Option.{option_map}
-use Rattle.radio_tables.specs.Lists.{update_first}
-use Rattle.radio_attachments.specs.declared.attachment.Attachment.{Attachment}
-use Rattle.radio_attachments.specs.Rows.{at_place}
-use Rattle.radio_fallback.specs.Heard.{IsAt, GoesOver}
-use Rattle.radio_parts_table.specs.Parts.{ByMount, has_part}
-use Rattle.radio_parts_mount.specs.Parts.{MountAttachments}
-use Rattle.radio_parts_table.specs.Attached.{is_of_mount, places_in}
-use Rattle.radio_parts_mount.specs.Attached.{without_id, with_boxed}
+use Rattle.radio_parts_table.proofs.Words.{find, option_map, update_first, Attachment, at_place, IsAt, GoesOver, ByMount, has_part, MountAttachments, is_of_mount, places_in, without_id, with_boxed}
 use Rattle.radio_parts_table.proofs.ByMountLemmas.{IsHis, found_his, moved_his, shifted_others, shifted_there, put_back_in, goes_over, part_stays, taken_out, cleared}
 use Rattle.radio_parts_table.proofs.parts.MountParts.reattach.Goals as goal
 

@@ -1,8 +1,5 @@
 use Rattle.std.proofs.Common.{ap, ◌∙◌}
-use Rattle.radio_parts_mount.specs.Kept.{kept_fed, longer_kept}
-use Rattle.radio_parts_mount.specs.StatePart.{end_in}
-use Rattle.radio_parts_mount.specs.Sessions.{session_of}
-use Rattle.radio_parts_table.specs.Parts.{ByMount, by_mount_of, with_live}
+use Rattle.radio_parts_table.proofs.Words.{kept_fed, longer_kept, end_in, session_of, ByMount, by_mount_of, with_live}
 use Rattle.radio_parts_table.proofs.PartLemmas.{fed_whole, changed_shown}
 use Rattle.radio_parts_table.proofs.parts.MountParts.receive.Goals as goal
 

@@ -1,12 +1,6 @@
 use Rattle.std.proofs.Common.{◌≡◌, ◌==◌, length, Option, Some, None, true, false, List, refl, ap, sym, subst, ◌∙◌}
-use Rattle.std.specs.Prelude.{find, is_some, not}
-use Rattle.std.specs.Option.{option_copied, option_map}
-use Rattle.radio_tables.specs.Lists.{Each}
-use Rattle.radio_parts_mount.specs.Sessions.{Session}
-use Rattle.radio_parts_mount.specs.declared.part.MountPart.{MountPart}
-use Rattle.radio_parts_table.specs.Parts.{ByMount, attached_in, has_part, live_in}
-use Rattle.radio_parts_mount.specs.Parts.{MountAttachments, attached_to, is_part_of}
-use Rattle.radio_parts_table.specs.Attached.{is_of_mount, places_in}
+use Rattle.radio_parts_table.proofs.Words.{find, is_some, not, option_copied, option_map, Each, Session, MountPart, ByMount, attached_in, has_part, live_in, MountAttachments, attached_to, is_part_of, is_of_mount}
+use Rattle.radio_parts_table.proofs.Words.{places_in}
 use Rattle.radio_parts_table.proofs.ByMountChanges.{part_left, places_released, without_mount}
 use Rattle.radio_parts_table.proofs.LiveLemmas.{part_removed}
 use Rattle.radio_parts_table.proofs.PartLemmas.{AreWhole}

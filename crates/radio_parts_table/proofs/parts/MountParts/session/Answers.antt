@@ -1,9 +1,5 @@
 use Rattle.std.proofs.Common.{◌≡◌, Some, None, ap, sym, ◌∙◌}
-use Rattle.std.specs.Prelude.{find}
-use Rattle.std.specs.Option.{option_copied}
-use Rattle.radio_parts_mount.specs.Sessions.{session_of}
-use Rattle.radio_parts_table.specs.Parts.{ByMount}
-use Rattle.radio_parts_mount.specs.Parts.{is_part_of}
+use Rattle.radio_parts_table.proofs.Words.{find, option_copied, session_of, ByMount, is_part_of}
 use Rattle.radio_parts_table.proofs.LiveLemmas.{session_found, its}
 use Rattle.radio_parts_table.proofs.parts.MountParts.session.Goals as goal
 

@@ -1,6 +1,5 @@
 use Rattle.std.proofs.Common.{Some, ap, sym, subst, ◌∙◌}
-use Rattle.radio_parts_mount.specs.Sessions.{with_title, titled}
-use Rattle.radio_parts_table.specs.Parts.{ByMount, by_mount_of, with_live}
+use Rattle.radio_parts_table.proofs.Words.{with_title, titled, ByMount, by_mount_of, with_live}
 use Rattle.radio_parts_table.proofs.PartLemmas.{AreWhole, titled_whole, changed_shown}
 use Rattle.radio_parts_table.proofs.parts.MountParts.set_title.Goals as goal
 

@@ -1,14 +1,6 @@
 use Rattle.std.proofs.Common.{◌≡◌, ℕ, Option, None, Some, refl, ap, sym, subst, ◌∙◌}
-use Rattle.std.specs.Prelude.{find}
-use Rattle.std.specs.Option.{option_map, option_map_or}
-use Rattle.radio_attachments.specs.Rows.{is_attached}
+use Rattle.radio_parts_table.proofs.Words.{find, option_map, option_map_or, is_attached, MountPart, update_first, ByMount, by_mount_of, attached_to, is_part_of, is_of_mount, found_in, with_attached, without_id}
 use Rattle.radio_parts_table.specs.declared.attached.Takes.{Takes as TakesOf}
-use Rattle.radio_parts_mount.specs.declared.part.MountPart.{MountPart}
-use Rattle.radio_tables.specs.Lists.{update_first}
-use Rattle.radio_parts_table.specs.Parts.{ByMount, by_mount_of}
-use Rattle.radio_parts_mount.specs.Parts.{attached_to, is_part_of}
-use Rattle.radio_parts_table.specs.Attached.{is_of_mount, found_in, with_attached}
-use Rattle.radio_parts_mount.specs.Attached.{without_id}
 use Rattle.radio_parts_table.proofs.PartLemmas.{AreWhole}
 use Rattle.radio_parts_table.proofs.PartAttachments.{attachments_shown, attachments_whole, found_through}
 use Rattle.radio_parts_table.proofs.parts.MountParts.take.Goals as goal

@@ -1,15 +1,8 @@
 use Rattle.std.proofs.Common.{◌≡◌, [], Option, None, Some, List, refl, ap, sym, subst, ◌∙◌}
-use Rattle.std.specs.Prelude.{find, filter}
-use Rattle.std.specs.Option.{option_map, option_map_or}
+use Rattle.radio_parts_table.proofs.Words.{find, filter, option_map, option_map_or, lags, update_first, MountPart, ByMount, by_mount_of, MountAttachments, attached_to, is_part_of, is_of_mount, attachments_in}
+use Rattle.radio_parts_table.proofs.Words.{with_attached, without_lagging}
 use Rattle.radio_attachments.proofs.Bounds.{none_pass}
-use Rattle.radio_attachments.specs.Rows.{lags}
-use Rattle.radio_tables.specs.Lists.{update_first}
 use Rattle.radio_parts_table.specs.declared.attached.TakesLagging.{TakesLagging as TakesOf}
-use Rattle.radio_parts_mount.specs.declared.part.MountPart.{MountPart}
-use Rattle.radio_parts_table.specs.Parts.{ByMount, by_mount_of}
-use Rattle.radio_parts_mount.specs.Parts.{MountAttachments, attached_to, is_part_of}
-use Rattle.radio_parts_table.specs.Attached.{is_of_mount, attachments_in, with_attached}
-use Rattle.radio_parts_mount.specs.Attached.{without_lagging}
 use Rattle.radio_parts_table.proofs.LaggingLemmas.{nobody_lags}
 use Rattle.radio_parts_table.proofs.PartLemmas.{AreWhole}
 use Rattle.radio_parts_table.proofs.PartAttachments.{attachments_shown, attachments_whole, found_through}

@@ -1,5 +1,5 @@
 use Rattle.std.proofs.Common.{◌≡◌}
-use Rattle.radio_pullers.specs.Threads.{HasPulled}
+use Rattle.radio_pullers.proofs.Words.{HasPulled}
 use Rattle.radio_pullers.proofs.puller.Puller.pull.Given as goal
 
 abbrev pub invariant-addresses : goal.invariant-addresses

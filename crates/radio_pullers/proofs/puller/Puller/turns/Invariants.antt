@@ -1,5 +1,5 @@
 use Rattle.std.proofs.Common.{◌≡◌}
-use Rattle.radio_pullers.specs.Threads.{HasGoneOn}
+use Rattle.radio_pullers.proofs.Words.{HasGoneOn}
 use Rattle.radio_pullers.proofs.puller.Puller.turns.Given as goal
 
 abbrev pub invariant-turns : goal.invariant-turns

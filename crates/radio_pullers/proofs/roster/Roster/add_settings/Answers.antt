@@ -1,7 +1,6 @@
 use Rattle.std.proofs.Common.{◌≡◌, List, [], ◌∷◌, ◌++◌, ap, ◌∙◌}
 use Rattle.std.specs.Prelude.{if◌then◌else◌}
-use Rattle.std.proofs.lemmas.List.{append_assoc}
-use Rattle.radio_settings_values.specs.declared.settings.RelaySetting.{RelaySetting}
+use Rattle.radio_pullers.proofs.Words.{append_assoc, RelaySetting}
 use Rattle.radio_pullers.proofs.roster.Roster.add_settings.Goals as goal
 
 pub relays-preserved : goal.relays-preserved

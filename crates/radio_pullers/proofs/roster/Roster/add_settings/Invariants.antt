@@ -1,6 +1,5 @@
 use Rattle.std.proofs.Common.{◌≡◌, ◌++◌, List, map}
-use Rattle.std.specs.Arc.{arc_value}
-use Rattle.radio_settings_values.specs.declared.settings.RelaySetting.{RelaySetting}
+use Rattle.radio_pullers.proofs.Words.{arc_value, RelaySetting}
 use Rattle.radio_pullers.proofs.roster.Roster.add_settings.Given as goal
 
 abbrev pub invariant-relays : goal.invariant-relays

@@ -1,6 +1,5 @@
 use Rattle.std.proofs.Common.{◌≡◌, map, take}
-use Rattle.std.specs.Arc.{arc_value}
-use Rattle.radio_pullers.specs.Running.{pulled_mounts}
+use Rattle.radio_pullers.proofs.Words.{arc_value, pulled_mounts}
 use Rattle.radio_pullers.proofs.roster.Roster.live.Given as goal
 
 abbrev pub invariant-relays : goal.invariant-relays

@@ -1,10 +1,5 @@
 use Rattle.std.proofs.Common.{◌≡◌, List, [], ap, sym, ◌∙◌, arith}
-use Rattle.std.proofs.lemmas.List.{nil_from_length}
-use Rattle.std.specs.Vec.Iter.{into_iter_items}
-use Rattle.radio_icy.specs.declared.items.Item.{Item}
-use Rattle.radio_icy.specs.Items.{atoms_of}
-use Rattle.radio_relay.specs.Items.{Gathered, with_parts}
-use Rattle.radio_relay.specs.Pulled.{parts_heard}
+use Rattle.radio_relay.proofs.Words.{nil_from_length, into_iter_items, Item, atoms_of, Gathered, with_parts, parts_heard}
 use Rattle.radio_relay.proofs.ItemsLemmas.{with_parts-heard}
 use Rattle.radio_relay.proofs.items.PulledItems.add_heard.Goals as goal
 

@@ -1,8 +1,5 @@
 use Rattle.std.proofs.Common.{◌≡◌}
-use Rattle.std.specs.Vec.Iter.{into_iter_items}
-use Rattle.radio_icy.specs.Items.{atoms_of}
-use Rattle.radio_relay.specs.Items.{with_parts}
-use Rattle.radio_relay.specs.Pulled.{parts_heard}
+use Rattle.radio_relay.proofs.Words.{into_iter_items, atoms_of, with_parts, parts_heard}
 use Rattle.radio_relay.proofs.items.PulledItems.add_heard.Given as goal
 
 -- with what is left they are what all makes of them

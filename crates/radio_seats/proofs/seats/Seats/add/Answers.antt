@@ -1,13 +1,6 @@
 use Rattle.std.proofs.Common.{◌<◌, ◌-◌, refl, ap, sym, subst, ◌∙◌, arith}
-use Rattle.std.specs.Prelude.{length, map}
-use Rattle.std.specs.Ordering.{nat_cmp}
-use Rattle.radio_tables.specs.Lists.{placed}
-use Rattle.radio_seats_rows.specs.declared.row.ListenerRow.{ListenerRow}
-use Rattle.radio_seats_rows.specs.SeatTable.{SeatTable}
-use Rattle.radio_seats_rows.specs.Mounts.{is_number, name_in, sitting_in, naming_in, one_at}
-use Rattle.radio_seats_rows.specs.Rows.{seated_row}
-use Rattle.radio_seats.specs.Shown.{named, number_in, last_in, sits_by, names_by, AreCounted}
-use Rattle.radio_seats_rows.specs.Seats.{with_seat}
+use Rattle.radio_seats.proofs.Words.{length, map, nat_cmp, placed, ListenerRow, SeatTable, is_number, name_in, sitting_in, naming_in, one_at, seated_row, named, number_in, last_in, sits_by, names_by, AreCounted}
+use Rattle.radio_seats.proofs.Words.{with_seat}
 use Rattle.radio_seats.proofs.RowCounts.{held_number, held_last, his_counts, one_comes, one_more, room_for_one}
 use Rattle.radio_seats.proofs.RowLemmas.{is_called, same_table, seats_with}
 use Rattle.radio_seats.proofs.seats.Seats.add.Goals as goal

@@ -1,15 +1,6 @@
 use Rattle.std.proofs.Common.{◌≡◌, ℕ, Option, Some, None, refl, ap, sym, subst, ◌∙◌}
-use Rattle.std.specs.Prelude.{find, map}
-use Rattle.std.specs.Option.{option_map}
-use Rattle.radio_seats_rows.specs.declared.row.ListenerRow.{ListenerRow}
-use Rattle.radio_seats_rows.specs.declared.row.RowState.{RowState}
-use Rattle.radio_seats_rows.specs.declared.row.RowState.TheVariants.{Seated, Ended}
-use Rattle.radio_seats_rows.specs.SeatTable.{SeatTable}
-use Rattle.radio_seats_rows.specs.Mounts.{name_in}
-use Rattle.radio_seats_rows.specs.Rows.{is_row, number_of, last_number, with_state}
-use Rattle.radio_seats.specs.Further.{heard_to_place}
-use Rattle.radio_seats.specs.Shown.{named, sits_by, names_by, number_in, last_in, FitRows}
-use Rattle.radio_seats_rows.specs.Seats.{with_place}
+use Rattle.radio_seats.proofs.Words.{find, map, option_map, ListenerRow, RowState, Seated, Ended, SeatTable, name_in, is_row, number_of, last_number, with_state, heard_to_place, named, sits_by, names_by, number_in}
+use Rattle.radio_seats.proofs.Words.{last_in, FitRows, with_place}
 use Rattle.radio_seats.proofs.KeptRows.{kept_heard}
 use Rattle.radio_seats.proofs.RowCounts.{held_number, held_last, stays_there}
 use Rattle.radio_seats.proofs.RowLemmas.{same_table, seats_heard}

@@ -1,8 +1,5 @@
 use Rattle.std.proofs.Common.{ap, sym, subst, ◌∙◌}
-use Rattle.std.specs.Option.{option_copied}
-use Rattle.radio_seats_rows.specs.SeatTable.{SeatTable}
-use Rattle.radio_seats_rows.specs.Mounts.{is_number, name_in, sitting_of}
-use Rattle.radio_seats_rows.specs.Seats.{count_at, AreByNumber}
+use Rattle.radio_seats.proofs.Words.{option_copied, SeatTable, is_number, name_in, sitting_of, count_at, AreByNumber}
 use Rattle.radio_seats.proofs.RowLemmas.{counts_there, nobody_there, rising_shown}
 use Rattle.radio_seats.proofs.seats.Seats.count.Goals as goal
 

@@ -1,16 +1,6 @@
 use Rattle.std.proofs.Common.{◌≡◌, Option, None, Some, refl, ap, sym, subst, ◌∙◌}
-use Rattle.std.specs.Prelude.{find, map}
-use Rattle.std.specs.Option.{option_map}
-use Rattle.radio_policy.specs.declared.rule.Rule.{Rule}
-use Rattle.radio_tables.specs.Lists.{update_first}
-use Rattle.radio_seats_rows.specs.declared.row.ListenerRow.{ListenerRow}
-use Rattle.radio_seats_rows.specs.declared.row.RowState.{RowState}
-use Rattle.radio_seats_rows.specs.declared.row.RowState.TheVariants.{Seated, Ended}
-use Rattle.radio_seats_rows.specs.SeatTable.{SeatTable}
-use Rattle.radio_seats_rows.specs.Mounts.{name_in, sitting_in}
-use Rattle.radio_seats_rows.specs.Rows.{is_row, ended, number_of, last_number, with_state}
-use Rattle.radio_seats.specs.Shown.{sits_by, names_by, named, number_in, last_in, FitRows}
-use Rattle.radio_seats_rows.specs.Seats.{with_end}
+use Rattle.radio_seats.proofs.Words.{find, map, option_map, Rule, update_first, ListenerRow, RowState, Seated, Ended, SeatTable, name_in, sitting_in, is_row, ended, number_of, last_number, with_state, sits_by, names_by}
+use Rattle.radio_seats.proofs.Words.{named, number_in, last_in, FitRows, with_end}
 use Rattle.radio_seats.proofs.KeptRows.{kept_ended}
 use Rattle.radio_seats.proofs.RowCounts.{held_number, held_last, goes_from, stays_there, one_less}
 use Rattle.radio_seats.proofs.RowLemmas.{same_table, seats_ended}

@@ -1,11 +1,5 @@
 use Rattle.std.proofs.Common.{◌≡◌, ◌∙◌, ap, sym, subst, refl}
-use Rattle.std.specs.Prelude.{map}
-use Rattle.radio_seats_rows.specs.SeatTable.{SeatTable}
-use Rattle.radio_seats_rows.specs.Guests.{passes_at}
-use Rattle.radio_seats_rows.specs.Mounts.{is_number, name_in}
-use Rattle.radio_seats.specs.Shown.{named, FitRows}
-use Rattle.radio_seats_rows.specs.Seats.{with_ended}
-use Rattle.radio_seats_rows.specs.Rests.{how_many}
+use Rattle.radio_seats.proofs.Words.{map, SeatTable, passes_at, is_number, name_in, named, FitRows, with_ended, how_many}
 use Rattle.radio_seats.proofs.KeptRows.{kept_ended_where}
 use Rattle.radio_seats.proofs.RowLemmas.{all_end_there, none_end_there, nobody_ends, none_to_end, how_many_there, same_table, shown_same}
 use Rattle.radio_seats.proofs.RowCounts.{counted_ended}

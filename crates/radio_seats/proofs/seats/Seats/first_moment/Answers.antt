@@ -1,7 +1,5 @@
 use Rattle.std.proofs.Common.{ap, ◌∙◌}
-use Rattle.radio_seats_rows.specs.SeatTable.{SeatTable}
-use Rattle.radio_seats_rows.specs.Guests.{first_moment}
-use Rattle.radio_seats_rows.specs.Mounts.{name_in}
+use Rattle.radio_seats.proofs.Words.{SeatTable, first_moment, name_in}
 use Rattle.radio_seats.proofs.TestedRows.{moments_shown}
 use Rattle.radio_seats.proofs.seats.Seats.first_moment.Goals as goal
 

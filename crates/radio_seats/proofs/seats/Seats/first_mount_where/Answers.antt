@@ -1,9 +1,5 @@
 use Rattle.std.proofs.Common.{◌<◌, ap, sym, subst, ◌∙◌, arith}
-use Rattle.std.specs.Option.{option_copied}
-use Rattle.radio_seats_rows.specs.SeatTable.{SeatTable}
-use Rattle.radio_seats_rows.specs.Guests.{passes_in, passes_at}
-use Rattle.radio_seats_rows.specs.Mounts.{name_of, name_in, sitting_of}
-use Rattle.radio_seats_rows.specs.Rests.{how_many}
+use Rattle.radio_seats.proofs.Words.{option_copied, SeatTable, passes_in, passes_at, name_of, name_in, sitting_of, how_many}
 use Rattle.radio_seats.proofs.TestedRows.{none_pass, passes_seated, some_pass, some_sit}
 use Rattle.radio_seats.proofs.seats.Seats.first_mount_where.Goals as goal
 

@@ -1,9 +1,5 @@
 use Rattle.std.proofs.Common.{◌≡◌, ap, sym, subst, refl, ◌∙◌}
-use Rattle.std.specs.Prelude.{map}
-use Rattle.radio_seats_rows.specs.SeatTable.{SeatTable}
-use Rattle.radio_seats_rows.specs.Mounts.{is_number, name_in}
-use Rattle.radio_seats.specs.Shown.{named, FitRows}
-use Rattle.radio_seats_rows.specs.Seats.{with_session_at}
+use Rattle.radio_seats.proofs.Words.{map, SeatTable, is_number, name_in, named, FitRows, with_session_at}
 use Rattle.radio_seats.proofs.GivenRows.{counted_hearing, nobody_hears, seats_hearing}
 use Rattle.radio_seats.proofs.KeptRows.{kept_hearing}
 use Rattle.radio_seats.proofs.RowLemmas.{same_table}

@@ -1,7 +1,5 @@
 use Rattle.std.proofs.Common.{◌≡◌, List, map, IfOk, ap, sym, subst, ◌∙◌}
-use Rattle.radio_seats_rows.specs.SeatTable.{SeatTable}
-use Rattle.radio_seats.specs.Listed.{ListedGuest, lent_guest, guests_at}
-use Rattle.radio_seats_rows.specs.Mounts.{is_number, name_in}
+use Rattle.radio_seats.proofs.Words.{SeatTable, ListedGuest, lent_guest, guests_at, is_number, name_in}
 use Rattle.radio_seats.proofs.ListedLemmas.{guests_there, no_guests}
 use Rattle.radio_seats.proofs.seats.Seats.guests_at.Goals as goal
 

@@ -1,12 +1,5 @@
 use Rattle.std.proofs.Common.{◌<◌, ◌==◌, Some, ap, sym, ◌∙◌, arith}
-use Rattle.std.specs.Option.{option_copied, option_map}
-use Rattle.radio_seats_rows.specs.declared.row.ListenerRow.{ListenerRow}
-use Rattle.radio_seats_rows.specs.SeatTable.{SeatTable}
-use Rattle.radio_seats_rows.specs.Mounts.{name_of, name_in, naming_of}
-use Rattle.radio_seats_rows.specs.Rows.{is_row, last_number}
-use Rattle.radio_seats.specs.Shown.{names_by}
-use Rattle.radio_seats_rows.specs.Seats.{last_mount_of}
-use Rattle.radio_seats_rows.proofs.Lists.{passing, found_counts, same_number}
+use Rattle.radio_seats.proofs.Words.{option_copied, option_map, ListenerRow, SeatTable, name_of, name_in, naming_of, is_row, last_number, names_by, last_mount_of, passing, found_counts, same_number}
 use Rattle.radio_seats.proofs.RowLemmas.{last_found}
 use Rattle.radio_seats.proofs.seats.Seats.last_mount.Goals as goal
 

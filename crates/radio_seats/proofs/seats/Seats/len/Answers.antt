@@ -1,7 +1,5 @@
 use Rattle.std.proofs.Common.{subst}
-use Rattle.radio_seats_rows.specs.SeatTable.{SeatTable}
-use Rattle.radio_seats_rows.specs.Mounts.{name_in}
-use Rattle.radio_seats_rows.specs.Seats.{AreByNumber}
+use Rattle.radio_seats.proofs.Words.{SeatTable, name_in, AreByNumber}
 use Rattle.radio_seats.proofs.RowLemmas.{rising_shown}
 use Rattle.radio_seats.proofs.seats.Seats.len.Goals as goal
 

@@ -1,8 +1,5 @@
 use Rattle.std.proofs.Common.{ap, sym, ◌∙◌}
-use Rattle.std.specs.Option.{option_copied}
-use Rattle.radio_seats_rows.specs.SeatTable.{SeatTable}
-use Rattle.radio_seats_rows.specs.Mounts.{is_number, name_in, naming_of}
-use Rattle.radio_seats_rows.specs.Seats.{named_at}
+use Rattle.radio_seats.proofs.Words.{option_copied, SeatTable, is_number, name_in, naming_of, named_at}
 use Rattle.radio_seats.proofs.RowLemmas.{names_there, nobody_names}
 use Rattle.radio_seats.proofs.seats.Seats.named_at.Goals as goal
 

@@ -1,9 +1,5 @@
 use Rattle.std.proofs.Common.{Option, ap, sym, subst, ◌∙◌}
-use Rattle.std.specs.Option.{option_copied, option_map}
-use Rattle.radio_seats_rows.specs.SeatTable.{SeatTable}
-use Rattle.radio_seats_rows.specs.Mounts.{name_in}
-use Rattle.radio_seats_rows.specs.declared.row.ListenerRow.{ListenerRow}
-use Rattle.radio_seats_rows.specs.Seats.{next_number, AreByNumber}
+use Rattle.radio_seats.proofs.Words.{option_copied, option_map, SeatTable, name_in, ListenerRow, next_number, AreByNumber}
 use Rattle.radio_seats.proofs.OtherLemmas.{next_shown}
 use Rattle.radio_seats.proofs.RowLemmas.{rising_shown}
 use Rattle.radio_seats.proofs.seats.Seats.next.Goals as goal

@@ -1,5 +1,5 @@
 use Rattle.std.proofs.Common.{ap, ◌∙◌}
-use Rattle.radio_seats_rows.specs.SeatTable.{SeatTable}
+use Rattle.radio_seats.proofs.Words.{SeatTable}
 use Rattle.radio_seats.proofs.RowLemmas.{shown_still}
 use Rattle.radio_seats.proofs.seats.Seats.prepare.Goals as goal
 

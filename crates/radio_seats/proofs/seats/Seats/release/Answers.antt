@@ -1,6 +1,5 @@
 use Rattle.std.proofs.Common.{ap, sym, ◌∙◌}
-use Rattle.radio_seats_rows.specs.SeatTable.{SeatTable}
-use Rattle.radio_seats_rows.specs.Seats.{named_at}
+use Rattle.radio_seats.proofs.Words.{SeatTable, named_at}
 use Rattle.radio_seats.proofs.RowCounts.{none_names, none_sits}
 use Rattle.radio_seats.proofs.RowLemmas.{shown_still}
 use Rattle.radio_seats.proofs.seats.Seats.release.Goals as goal

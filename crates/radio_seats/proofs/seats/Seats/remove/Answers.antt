@@ -1,12 +1,5 @@
 use Rattle.std.proofs.Common.{ap, sym, subst, ◌∙◌, ◌-◌}
-use Rattle.std.specs.Prelude.{filter, map, not}
-use Rattle.std.specs.Option.{option_copied}
-use Rattle.radio_seats_rows.specs.SeatTable.{SeatTable}
-use Rattle.radio_seats_rows.specs.Mounts.{name_in, sitting_in, naming_in, one_at}
-use Rattle.radio_seats_rows.specs.Rows.{is_row}
-use Rattle.radio_seats.specs.Shown.{sits_by, names_by, named, number_in, last_in, FitRows}
-use Rattle.radio_seats.specs.Users.{user_in}
-use Rattle.radio_seats_rows.specs.Seats.{without_listener}
+use Rattle.radio_seats.proofs.Words.{filter, map, not, option_copied, SeatTable, name_in, sitting_in, naming_in, one_at, is_row, sits_by, names_by, named, number_in, last_in, FitRows, user_in, without_listener}
 use Rattle.radio_seats.proofs.UserLemmas.{kept_left}
 use Rattle.radio_seats.proofs.RowCounts.{held_number, held_last, one_goes, one_less}
 use Rattle.radio_seats.proofs.RowLemmas.{same_table, seats_without}

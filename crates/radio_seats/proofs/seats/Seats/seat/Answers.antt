@@ -1,12 +1,6 @@
 use Rattle.std.proofs.Common.{◌<◌, Some, ap, sym, ◌∙◌, arith}
-use Rattle.std.specs.Option.{option_copied, option_map}
-use Rattle.radio_seats_rows.specs.SeatTable.{SeatTable}
-use Rattle.radio_seats_rows.specs.Guests.{seat_of_guest}
-use Rattle.radio_seats_rows.specs.Mounts.{name_of, name_in, sitting_of}
-use Rattle.radio_seats_rows.specs.Rows.{is_row}
-use Rattle.radio_seats.specs.Shown.{named, named_state, sits_by, state_at}
-use Rattle.radio_seats_rows.specs.Seats.{listener_of, seat_held, seat_in}
-use Rattle.radio_seats_rows.proofs.Lists.{passing, found_counts, same_number}
+use Rattle.radio_seats.proofs.Words.{option_copied, option_map, SeatTable, seat_of_guest, name_of, name_in, sitting_of, is_row, named, named_state, sits_by, state_at, listener_of, seat_held, seat_in, passing}
+use Rattle.radio_seats.proofs.Words.{found_counts, same_number}
 use Rattle.radio_seats.proofs.RowLemmas.{listener_shown}
 use Rattle.radio_seats.proofs.seats.Seats.seat.Goals as goal
 

@@ -1,11 +1,5 @@
 use Rattle.std.proofs.Common.{◌<◌, ◌-◌, ap, refl, sym, subst, ◌∙◌, arith}
-use Rattle.std.specs.Prelude.{find, length, map}
-use Rattle.radio_tables.specs.Lists.{update_first}
-use Rattle.radio_seats_rows.specs.SeatTable.{SeatTable}
-use Rattle.radio_seats_rows.specs.Mounts.{is_number, name_in, sitting_in, naming_in, one_at}
-use Rattle.radio_seats_rows.specs.Rows.{is_row}
-use Rattle.radio_seats.specs.Shown.{named, number_in, last_in, sits_by, names_by, FitRows}
-use Rattle.radio_seats_rows.specs.Seats.{with_move}
+use Rattle.radio_seats.proofs.Words.{find, length, map, update_first, SeatTable, is_number, name_in, sitting_in, naming_in, one_at, is_row, named, number_in, last_in, sits_by, names_by, FitRows, with_move}
 use Rattle.radio_seats.proofs.KeptRows.{kept_shifted}
 use Rattle.radio_seats.proofs.RowCounts.{held_number, held_last, his_counts, stays_there, move, none_moves, his_name, seat_goes, name_goes, one_more, room_for_one}
 use Rattle.radio_seats.proofs.RowLemmas.{is_called, same_table, seats_moved}

@@ -1,10 +1,6 @@
 use Rattle.std.proofs.Common.{Some, ap, sym, ◌∙◌}
-use Rattle.std.specs.Option.{option_copied, option_map}
-use Rattle.radio_seats_rows.specs.SeatTable.{SeatTable}
+use Rattle.radio_seats.proofs.Words.{option_copied, option_map, SeatTable, name_in, named, named_state, listener_of}
 use Rattle.radio_seats.specs.Lent.{standing_by, standing_in}
-use Rattle.radio_seats_rows.specs.Mounts.{name_in}
-use Rattle.radio_seats.specs.Shown.{named, named_state}
-use Rattle.radio_seats_rows.specs.Seats.{listener_of}
 use Rattle.radio_seats.proofs.RowLemmas.{listener_shown}
 use Rattle.radio_seats.proofs.seats.Seats.standing.Goals as goal
 

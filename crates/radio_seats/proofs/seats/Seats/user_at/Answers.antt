@@ -1,7 +1,5 @@
 use Rattle.std.proofs.Common.{ap, sym, ◌∙◌}
-use Rattle.radio_seats_rows.specs.SeatTable.{SeatTable}
-use Rattle.radio_seats_rows.specs.Mounts.{is_number, name_in}
-use Rattle.radio_seats_rows.specs.Seats.{sits_there}
+use Rattle.radio_seats.proofs.Words.{SeatTable, is_number, name_in, sits_there}
 use Rattle.radio_seats.proofs.RowLemmas.{no_user_there, user_there}
 use Rattle.radio_seats.proofs.seats.Seats.user_at.Goals as goal
 

@@ -1,7 +1,5 @@
 use Rattle.std.proofs.Common.{ap, sym, ◌∙◌}
-use Rattle.radio_seats_rows.specs.SeatTable.{SeatTable}
-use Rattle.radio_seats_rows.specs.Mounts.{is_number, name_in}
-use Rattle.radio_seats_rows.specs.Seats.{sits_there, without_listener}
+use Rattle.radio_seats.proofs.Words.{SeatTable, is_number, name_in, sits_there, without_listener}
 use Rattle.radio_seats.proofs.OtherLemmas.{no_other_user_there, other_user_there}
 use Rattle.radio_seats.proofs.seats.Seats.user_of_others.Goals as goal
 

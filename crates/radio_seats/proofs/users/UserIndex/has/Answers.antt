@@ -1,9 +1,5 @@
 use Rattle.std.proofs.Common.{ℕ, sym, ap, ◌∙◌}
-use Rattle.std.specs.Prelude.{find}
-use Rattle.std.specs.List.{list_any}
-use Rattle.std.specs.Option.{option_copied}
-use Rattle.radio_seats_rows.specs.Rows.{is_row}
-use Rattle.radio_seats.specs.Users.{numbers_in, is_other_in}
+use Rattle.radio_seats.proofs.Words.{find, list_any, option_copied, is_row, numbers_in, is_other_in}
 use Rattle.radio_seats.proofs.UserLemmas.{found_by_user}
 use Rattle.radio_seats.proofs.users.UserIndex.has.Goals as goal
 

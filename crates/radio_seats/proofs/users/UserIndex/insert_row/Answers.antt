@@ -1,11 +1,5 @@
 use Rattle.std.proofs.Common.{◌==◌, ◌||◌, ap, sym, subst, refl, ◌∙◌}
-use Rattle.std.specs.Prelude.{◌&&◌}
-use Rattle.std.specs.Option.{option_copied}
-use Rattle.std.specs.Ordering.{nat_cmp}
-use Rattle.radio_tables.specs.Lists.{placed}
-use Rattle.radio_seats_rows.specs.declared.row.ListenerRow.{ListenerRow}
-use Rattle.radio_seats_rows.specs.Sent.{is_user}
-use Rattle.radio_seats.specs.Users.{user_in, is_kept, AreKept, HasItsUser}
+use Rattle.radio_seats.proofs.Words.{◌&&◌, option_copied, nat_cmp, placed, ListenerRow, is_user, user_in, is_kept, AreKept, HasItsUser}
 use Rattle.radio_seats.proofs.UserLemmas.{kept_placed, kept_refused, kept_still}
 use Rattle.radio_seats.proofs.users.UserIndex.insert_row.Goals as goal
 

@@ -1,8 +1,5 @@
 use Rattle.std.proofs.Common.{ℕ, List, Some, ◌||◌, ◌==◌, ap, ◌∙◌, rules}
-use Rattle.std.specs.BTreeMap.{is_at}
-use Rattle.std.specs.List.{list_any}
-use Rattle.std.specs.Ordering.{nat_cmp}
-use Rattle.radio_seats.specs.Users.{has_number}
+use Rattle.radio_seats.proofs.Words.{is_at, list_any, nat_cmp, has_number}
 use Rattle.radio_seats.proofs.UserTrees.{kept_changed, kept_same, or_stays, number_more}
 use Rattle.radio_seats.proofs.users.UserIndex.keep.Goals as goal
 

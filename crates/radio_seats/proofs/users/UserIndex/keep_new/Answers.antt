@@ -1,6 +1,5 @@
 use Rattle.std.proofs.Common.{◌≡◌, Some, None, ◌||◌, ◌&&◌, ◌==◌, sym, ap, ◌∙◌}
-use Rattle.std.specs.Str.{bytes_eq}
-use Rattle.radio_seats.specs.Users.{has_number, entry_of, is_kept}
+use Rattle.radio_seats.proofs.Words.{bytes_eq, has_number, entry_of, is_kept}
 use Rattle.radio_seats.proofs.UserTrees.{kept_changed, or_stays}
 use Rattle.radio_seats.proofs.users.UserIndex.keep_new.Goals as goal
 

@@ -1,7 +1,5 @@
 use Rattle.std.proofs.Common.{Some, None, ◌&&◌, ◌==◌, not, refl, sym, ap, ◌∙◌, rules}
-use Rattle.std.specs.BTreeMap.{is_at}
-use Rattle.std.specs.Ordering.{nat_cmp}
-use Rattle.radio_seats.specs.Users.{has_number}
+use Rattle.radio_seats.proofs.Words.{is_at, nat_cmp, has_number}
 use Rattle.radio_seats.proofs.UserTrees.{kept_changed, kept_same, and_not_stays, number_less, none_in_empty}
 use Rattle.radio_seats.proofs.users.UserIndex.take.Goals as goal
 

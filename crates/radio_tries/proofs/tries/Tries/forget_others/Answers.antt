@@ -1,7 +1,7 @@
 use Rattle.std.proofs.Common.{◌≡◌, rules, refl}
 use Rattle.std.specs.Prelude.{filter}
 use Rattle.std.proofs.lemmas.Map.Made.{filter_same_pairs}
-use Rattle.radio_tries.specs.Tries.{is_wanted_relay}
+use Rattle.radio_tries.proofs.Words.{is_wanted_relay}
 use Rattle.radio_tries.proofs.tries.Tries.forget_others.Goals as goal
 
 pub returns : goal.returns

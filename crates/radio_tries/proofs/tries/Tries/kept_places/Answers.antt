@@ -1,6 +1,6 @@
 use Rattle.std.proofs.Common.{◌≡◌, ◌∙◌, rules, ap, length, refl}
 use Rattle.std.proofs.lemmas.Fn.{filter_same}
-use Rattle.radio_tries.specs.Tries.{kept_at}
+use Rattle.radio_tries.proofs.Words.{kept_at}
 use Rattle.radio_tries.proofs.tries.Tries.kept_places.Goals as goal
 
 pub returns-clause-places : goal.returns-clause-places

@@ -1,8 +1,6 @@
 use Rattle.std.proofs.Common.{◌<◌, ℕ, List, [], ◌∷◌, ◌++◌, length, arith, ap, sym, ◌∙◌}
-use Rattle.std.specs.Arc.{arc_value}
+use Rattle.radio_tries.proofs.Words.{arc_value, RelaySetting, due_of, tried_at, waiting_of}
 use Rattle.radio_masters.specs.declared.turns.WaitingRelay.{WaitingRelay}
-use Rattle.radio_settings_values.specs.declared.settings.RelaySetting.{RelaySetting}
-use Rattle.radio_tries.specs.Tries.{due_of, tried_at, waiting_of}
 use Rattle.radio_tries.proofs.Queues.{queue_more}
 use Rattle.radio_tries.proofs.tries.Tries.waiting.Goals as goal
 

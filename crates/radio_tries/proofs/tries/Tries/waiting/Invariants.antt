@@ -1,6 +1,5 @@
 use Rattle.std.proofs.Common.{◌≡◌, map, take}
-use Rattle.std.specs.Arc.{arc_value}
-use Rattle.radio_tries.specs.Tries.{queue}
+use Rattle.radio_tries.proofs.Words.{arc_value, queue}
 use Rattle.radio_tries.proofs.tries.Tries.waiting.Given as goal
 
 abbrev pub invariant-relays : goal.invariant-relays

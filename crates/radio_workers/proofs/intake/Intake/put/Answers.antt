@@ -1,6 +1,5 @@
 use Rattle.std.proofs.Common.{◌≡◌, ◌+◌, ◌<◌, length, subst, MatchResult}
-use Rattle.radio_workers.specs.declared.intake.TheConstants.{ROOM}
-use Rattle.radio_workers.specs.Passes.{PassRecord, all_parts}
+use Rattle.radio_workers.proofs.Words.{ROOM, PassRecord, all_parts}
 use Rattle.radio_workers.proofs.Balances.{knows, puts, room-known}
 use Rattle.radio_workers.proofs.intake.Intake.put.Goals as goal
 

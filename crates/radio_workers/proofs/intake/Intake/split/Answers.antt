@@ -1,5 +1,5 @@
 use Rattle.std.proofs.Common.{◌<◌, subst, sym}
-use Rattle.radio_workers.specs.Passes.{PassRecord}
+use Rattle.radio_workers.proofs.Words.{PassRecord}
 use Rattle.radio_workers.proofs.Balances.{splits}
 use Rattle.radio_workers.proofs.intake.Intake.split.Goals as goal
 

@@ -1,4 +1,4 @@
-use Rattle.radio_workers.specs.Working.{nothing_yet}
+use Rattle.radio_workers.proofs.Words.{nothing_yet}
 use Rattle.radio_workers.proofs.Doings.{done_admit}
 use Rattle.radio_workers.proofs.shift.Shift.admit.Goals as goal
 

@@ -1,4 +1,4 @@
-use Rattle.radio_workers.specs.Working.{nothing_yet}
+use Rattle.radio_workers.proofs.Words.{nothing_yet}
 use Rattle.radio_workers.proofs.Doings.{done_close, done_then}
 use Rattle.radio_workers.proofs.shift.Shift.close_oldest.Goals as goal
 

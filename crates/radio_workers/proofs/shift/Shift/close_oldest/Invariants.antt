@@ -1,4 +1,4 @@
-use Rattle.radio_workers.specs.Working.{WorkerHasDone, shift_of}
+use Rattle.radio_workers.proofs.Words.{WorkerHasDone, shift_of}
 use Rattle.radio_workers.proofs.shift.Shift.close_oldest.Given as goal
 
 abbrev pub invariant-oldest : goal.invariant-oldest

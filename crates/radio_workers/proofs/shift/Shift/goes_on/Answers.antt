@@ -1,4 +1,4 @@
-use Rattle.radio_workers.specs.Working.{nothing_yet}
+use Rattle.radio_workers.proofs.Words.{nothing_yet}
 use Rattle.radio_workers.proofs.shift.Shift.goes_on.Goals as goal
 
 pub returns-in-None-clause-does : goal.returns-in-None-clause-does

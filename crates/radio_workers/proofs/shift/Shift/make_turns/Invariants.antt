@@ -1,5 +1,4 @@
-use Rattle.radio_workers.specs.TakenConnections.{HasTakenMore}
-use Rattle.radio_workers.specs.Working.{WorkerHasDone, shift_of}
+use Rattle.radio_workers.proofs.Words.{HasTakenMore, WorkerHasDone, shift_of}
 use Rattle.radio_workers.proofs.shift.Shift.make_turns.Given as goal
 
 -- only takings since the loop began, and steps of the worker

@@ -1,5 +1,5 @@
 use Rattle.std.proofs.Common.{refl, ◌∙◌}
-use Rattle.radio_workers.specs.Working.{nothing_yet}
+use Rattle.radio_workers.proofs.Words.{nothing_yet}
 use Rattle.radio_workers.proofs.Doings.{done_part, done_then}
 use Rattle.radio_workers.proofs.Partings.{parted_count}
 use Rattle.radio_workers.proofs.shift.Shift.part_sources.Goals as goal

@@ -1,5 +1,5 @@
 use Rattle.std.proofs.Common.{◌≡◌, ◌+◌, length}
-use Rattle.radio_workers.specs.Working.{WorkerHasDone, shift_of}
+use Rattle.radio_workers.proofs.Words.{WorkerHasDone, shift_of}
 use Rattle.radio_workers.proofs.shift.Shift.part_sources.Given as goal
 
 abbrev pub invariant-started : goal.invariant-started
