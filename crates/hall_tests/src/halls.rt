@@ -14,8 +14,8 @@ use radio_access::Lists;
 use radio_book::{Entry, Kept, Origin, PASSES, Pass};
 use radio_events::{Event, Reply};
 use radio_hall::{SettleFault, settle};
-use radio_locks::{Caller, Hall, OutOfMemory};
-use radio_serving::Server;
+use radio_locks::{Hall, OutOfMemory};
+use radio_serving::{Server, Watched};
 use radio_settings::SettingsFault;
 use radio_settings_values::Settings;
 use radio_values::MountName;
@@ -51,20 +51,25 @@ impl<'a, R: Wait, H: Origin> Callee for PassCaller<'a, R, H> {
 /// A caller of a hall, which a worker asks at a station: a name with one lifetime.
 #[derive(Drop)]
 pub struct HallCaller<'a, R: Wait, H: Origin> {
-    caller: Caller<'a, R, Hall<Kept, H>>,
+    watched: Watched<'a, R, Hall<Kept, H>>,
 }
 
 impl<'a, R: Wait, H: Origin> HallCaller<'a, R, H> {
     /// A caller of this hall, with this pass.
-    pub fn new(rt: &'a R, hall: &'a Hall<Kept, H>, pass: Pass<Kept, H>) -> HallCaller<'a, R, H> {
+    pub fn new(
+        alloc: Global,
+        rt: &'a R,
+        hall: &'a Hall<Kept, H>,
+        pass: Pass<Kept, H>,
+    ) -> HallCaller<'a, R, H> {
         HallCaller {
-            caller: Caller::new(rt, hall, pass),
+            watched: Watched::new(alloc, rt, hall, pass),
         }
     }
 
     /// Its pass, when it calls no more.
     pub fn into_pass(self) -> Pass<Kept, H> {
-        self.caller.into_pass()
+        self.watched.into_pass()
     }
 }
 
@@ -74,11 +79,11 @@ impl<'a, R: Wait, H: Origin> Server for HallCaller<'a, R, H> {
     ghost refuses = { λ from event. Unit {0} };
 
     fn apply(&mut self, event: Event) -> Result<Reply, OutOfMemory> {
-        self.caller.apply(event)
+        self.watched.apply(event)
     }
 
     fn last_mount(&self, id: u64) -> Option<MountName> {
-        self.caller.last_mount(id)
+        self.watched.last_mount(id)
     }
 }
 

@@ -95,7 +95,12 @@ pub fn is_row_played<H: Origin, R: Wait>(
     kept: KeptRow,
 ) -> bool {
     match hall.pass(rt) {
-        Some(pass) => is_played_by(alloc, HallCaller::new(rt, hall, pass), passes, kept.row),
+        Some(pass) => is_played_by(
+            alloc,
+            HallCaller::new(alloc, rt, hall, pass),
+            passes,
+            kept.row,
+        ),
         None => false,
     }
 }

@@ -35,7 +35,7 @@ fn open_station<'a, H: Origin, R: Wait>(
     hall: &'a Hall<Kept, H>,
 ) -> Option<HallStation<'a, R, H>> {
     let pass = hall.pass(rt)?;
-    Some(Station::new(alloc, HallCaller::new(rt, hall, pass)))
+    Some(Station::new(alloc, HallCaller::new(alloc, rt, hall, pass)))
 }
 
 /// Adds the worker's pass, when it serves no more. Whether there was memory for it.

@@ -1,15 +1,18 @@
 -- What all mounts have in common follows from the entries of the control's list.
-use Rattle.std.proofs.Common.{◌≡◌, ℕ, Bool, true, false, Option, None, Some, inl, inr, List, [], ◌∷◌, ◌++◌, Result, Ok, Err, IfOk, OnErr, refl, ap, sym, subst, ◌∙◌}
+use Rattle.std.proofs.Common.{◌≡◌, ℕ, Bool, true, false, Option, None, Some, inl, inr, List, [], ◌∷◌, ◌++◌, Result, Ok, Err, IfOk, OnOk, OnErr, refl, ap, sym, subst, ◌∙◌}
 use Rattle.radio_book.proofs.Words.{MatchOption, append-nil, AllocError, IsLentTo, ControlLine, Cut, Made, entry, Event, Reply, World, MountPart, entries_in, AreWantedOver, AreWantedThere, CanBe, HasNoPass}
 use Rattle.radio_book.proofs.Words.{IsControlLent, IsControlReply, IsMadeByEntries, IsOpening, WasThere, AreBack, AreLent, ControlState, IsBack, IsControlAsBefore, IsControlStep, IsLentOrStays, IsRefused, with_moment}
 use Rattle.radio_book.proofs.Words.{with_mount_part, AreCuts, BookOfMount}
 use Rattle.std.proofs.Math.Logic.{∥∥₁_map}
+use Rattle.radio_parts.specs.CanStep.{CanStep}
 use Rattle.radio_parts.specs.Common.{Common, common_after, common_by, common_of}
+use Rattle.radio_parts.specs.ControlSteps.{control_after, control_reply}
 use Rattle.radio_events.specs.declared.entry.Entry.{Entry}
 use Rattle.radio_parts_station.specs.StationState.{StationState}
 use Rattle.radio_seats_rows.specs.Seats.{last_mount_of}
 use Rattle.radio_parts.specs.Lending.{IsTakenOut}
 use Rattle.radio_parts_facts.specs.Wanted.{wanted}
+use Rattle.radio_book.specs.Clocks.{LeavesParts}
 use Rattle.radio_book.specs.ControlLists.CanBe.{opens, stays, steps}
 
 exchanged_common : (part there : MountPart) (before after : World) → IsLentTo part there before after → common_of after ≡ common_of before
@@ -47,6 +50,23 @@ stepped_common books back before after event reply is =
 pub as_before_common : (books back : List BookOfMount) (before after : World) → IsControlAsBefore books before back after → common_of after ≡ common_of before
 as_before_common books back before after is =
     all_back_common is.lent back is.whole after is.takes_back ∙ all_lent_common is.reached books is.lent before is.whole is.lends
+
+-- the control's step over what it was lent, which is taken back then
+pub stepped_over : (books lent back : List BookOfMount) (before whole later after : World) (event : Event) (reached : Bool) (result : Result Reply AllocError)
+    → (reached ≡ false → LeavesParts before.station.settings books event) → AreLent reached books lent before whole → AreBack lent back later after
+    → (CanStep whole event → IfOk result (λ reply. reply ≡ control_reply whole event)) → (CanStep whole event → OnOk result (later ≡ control_after whole event))
+    → IfOk result (λ reply. common_of later ≡ common_after (common_of whole) event reply)
+    → IfOk result (λ reply. IsControlStep books before event reply back after)
+stepped_over books lent back before whole later after event reached (Err refused) leaves lends takes_back told ok common = tt
+stepped_over books lent back before whole later after event reached (Ok reply) leaves lends takes_back told ok common =
+    record { lent = lent; whole = whole; later = later; reached = reached; leaves = leaves; lends = lends; replied = told; changed = ok; common = common; takes_back = takes_back }
+
+-- the control was refused memory, and what it was lent is taken back
+pub refused_over : (books lent back : List BookOfMount) (before whole later after : World) (reached : Bool) (result : Result Reply AllocError)
+    → AreLent reached books lent before whole → AreBack lent back later after → OnErr result (later ≡ whole) → OnErr result (IsControlAsBefore books before back after)
+refused_over books lent back before whole later after reached (Ok reply) lends takes_back err = tt
+refused_over books lent back before whole later after reached (Err refused) lends takes_back err =
+    record { lent = lent; whole = whole; reached = reached; lends = lends; takes_back = subst (λ (w : World). AreBack lent back w after) err takes_back }
 
 refused_common : (books back : List BookOfMount) (before after : World) → IsRefused books before back after → common_of after ≡ common_of before
 refused_common books back before after (inl is) = ap common_of is.1

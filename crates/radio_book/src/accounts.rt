@@ -10,7 +10,7 @@ ghost use Rattle.radio_book.specs.Newcomers.{is_arrival, room_for};
 ghost use Rattle.radio_book.specs.Receipts.{receipt_of};
 
 use crate::holdings::Holdings;
-use crate::lending::{apart, lend_each, note_cuts, step_over, step3_over, take_back_each};
+use crate::lending::{apart, lend_each, note_cuts, reaches_parts, step3_over, take_back_each};
 use crate::reserved_ends::ReservedEnds;
 use crate::{Chronicle, Entry, MountBook, Origin, OutOfMemory, Receipt, Stamp};
 use radio_chronicle::{ControlLine, Notes, twice};
@@ -127,7 +127,8 @@ impl<C: Chronicle, H: Origin> Accounts<C, H> {
     }
 
     /// One event over the parts that are lent, if nothing is stored. `OutOfMemory` if memory was refused; nothing has changed
-    /// then.
+    /// then, and the parts were lent and taken back.
+    // rule: Legal history
     pub(crate) fn answer(
         &mut self,
         lent: &mut [MountBook<C>],
@@ -139,7 +140,11 @@ impl<C: Chronicle, H: Origin> Accounts<C, H> {
         ensures err { OnErr result (IsRefused lent.old self.old.control lent.new self.new.control) }
         ensures frees { EventTakesNoMemory event → IsOk result }
     {
-        step_over(&mut self.control, lent, event)
+        let is_reached = reaches_parts(&self.control, lent, &event);
+        lend_each(&mut self.control, lent, is_reached);
+        let stepped = self.control.step(event);
+        take_back_each(&mut self.control, lent);
+        stepped
     }
 
     /// One event over the parts that are lent, which is stored. `OutOfMemory` if memory was refused; nothing has changed then.

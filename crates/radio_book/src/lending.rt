@@ -20,7 +20,11 @@ use radio_settings_values::{MountOptions, Settings};
 /// Returns whether the event can reach what is in these parts. A clock can't if no mount limits how long its listeners hear, and no
 /// session is due, by the parts and as far as the control knows.
 // rule: The clock
-fn reaches_parts<C: Chronicle>(control: &Control, lent: &[MountBook<C>], event: &Event) -> bool
+pub(crate) fn reaches_parts<C: Chronicle>(
+    control: &Control,
+    lent: &[MountBook<C>],
+    event: &Event,
+) -> bool
     // nothing is due in the parts then
     ensures { result ≡ false → LeavesParts control.now.station.settings lent.now event.now }
 {
@@ -75,25 +79,8 @@ pub(crate) fn take_back_each<C: Chronicle>(control: &mut Control, lent: &mut [Mo
     }
 }
 
-/// The control's step over the parts that are lent. `OutOfMemory` if memory was refused; the parts were lent and taken back then.
-// rule: Legal history
-pub(crate) fn step_over<C: Chronicle>(
-    control: &mut Control,
-    lent: &mut [MountBook<C>],
-    event: Event,
-) -> Result<Reply, OutOfMemory>
-    ensures step { IfOk result (λ reply. IsControlStep lent.old control.old event reply lent.new control.new) }
-    ensures err { OnErr result (IsControlAsBefore lent.old control.old lent.new control.new) }
-    ensures frees { EventTakesNoMemory event → IsOk result }
-{
-    let is_reached = reaches_parts(control, lent, &event);
-    lend_each(control, lent, is_reached);
-    let stepped = control.step(event);
-    take_back_each(control, lent);
-    stepped
-}
-
-/// The same, with the reply three times.
+/// The control's step over the parts that are lent, with the reply three times. `OutOfMemory` if memory was refused; the parts were
+/// lent and taken back then.
 // rule: Legal history
 pub(crate) fn step3_over<C: Chronicle>(
     control: &mut Control,

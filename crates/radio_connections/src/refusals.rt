@@ -1,12 +1,9 @@
 //! What was refused to a connection for want of memory, which only proofs read. It takes no memory.
 
-ghost use Rattle.std.specs.Prelude.{◌≡◌, IfOk, OnErr};
-ghost use Rattle.radio_connections.specs.Connections.{no_refusals, one_refusal, refused_one};
+ghost use Rattle.std.specs.Prelude.{◌≡◌};
+ghost use Rattle.radio_connections.specs.Connections.{no_refusals, refused_one};
 
 use crate::history::History;
-use crate::serving::answering::is_leave;
-use crate::{OutOfMemory, Server};
-use radio_events::{Event, Reply};
 use std::marker::Model;
 
 /// How many of a connection's events were refused, and how many of these were the leaving of a client.
@@ -34,29 +31,6 @@ impl Refusals {
         Refusals {
             events: History::new(),
             leavings: History::new(),
-        }
-    }
-
-    /// Applies an event. `OutOfMemory` if the server was refused memory: then this is counted, and
-    /// nothing else has changed.
-    pub(crate) fn apply<S: Server>(
-        &mut self,
-        server: &mut S,
-        event: Event,
-    ) -> Result<Reply, OutOfMemory>
-        ensures ok { IfOk result (λ reply. S.steps server.old event reply server.new) }
-        ensures none { IfOk result (λ _. self.new ≡ self.old) }
-        ensures err { OnErr result (server.new ≡ server.old) }
-        ensures one { OnErr result (self.new ≡ one_refusal event self.old) }
-    {
-        let leaves = is_leave(&event);
-        let applied = server.apply(event);
-        match &applied {
-            Ok(_) => applied,
-            Err(_) => {
-                self.count(leaves);
-                applied
-            }
         }
     }
 

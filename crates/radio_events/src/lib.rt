@@ -9,13 +9,11 @@
 //! - [`Entry`]: one event with its reply, of which histories are made.
 //! - [`Server`]: whoever applies events.
 //! - [`SharedServer`]: a server that several threads ask, each by a pass of its own.
-//! - [`Caller`]: such a server as one of them asks it: a [`Server`], with a pass.
 //! - `again` of either is an equal copy.
 #![tactic(auto)]
 
 mod again;
 mod boxed;
-mod caller;
 mod command;
 mod entry;
 mod event;
@@ -26,7 +24,6 @@ mod state;
 mod text;
 
 pub use boxed::Boxed;
-pub use caller::Caller;
 pub use command::{Asked, Command, CommandRequest, Listing, OpenedBy};
 pub use entry::Entry;
 pub use event::{Event, ListenRequest, MomentText, PageVisit, SourceRequest};

@@ -32,7 +32,7 @@ pub use radio_connections::{
     CallCount, Conn, Gate, History, Line, OpenGate, Received, Sent, Server, WebAnswers,
 };
 pub use radio_events::SharedServer;
-pub use radio_locks::{Caller, Hall, OutOfMemory};
+pub use radio_locks::{Hall, OutOfMemory};
 pub use radio_notes::Log;
 pub use radio_serving::{Turn, Watched, Worker};
 pub use radio_workers::{

@@ -36,9 +36,9 @@ impl<C: Chronicle, H: Origin> Hall<C, H> {
         self.find_draw(rt, pass, id, room)
     }
 
-    /// Draws for a client that the pass does not know, or that has left the mount that the pass knows: first where another was found
-    /// last, since listeners are often moved together, and then where the control knows it, as [`Hall::find`]. Few draws come here, so
-    /// their event is made here.
+    /// Draws for a client that the pass does not know, or that has left the mount that the pass knows. Listeners are often moved
+    /// together, so it is tried where another was found last, and then where the control knows it, as [`Hall::find`]. Few draws come
+    /// here, so their event is made here.
     #[cold]
     #[inline(never)]
     fn find_draw<R: Wait>(
@@ -61,7 +61,8 @@ impl<C: Chronicle, H: Origin> Hall<C, H> {
         self.find(rt, pass, id, Event::Draw { id, room })
     }
 
-    /// Tries the draw at the mount of this list.
+    /// Tries the draw at the mount of this list. It has two callers, and each move of its reply would cost as much as a look-up.
+    #[inline(always)]
     fn draw_at<R: Wait>(
         &self,
         rt: &R,

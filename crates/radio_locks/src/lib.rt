@@ -1,7 +1,6 @@
 //! A lock for each mount's book, and one for the control's: the server that several threads call.
 //!
 //! - [`Hall`]: the locks; [`Hall::apply`] is one event. Read it first.
-//! - [`Caller`]: whom a worker asks, of `radio_events`: a hall is a [`SharedServer`](radio_events::SharedServer).
 //! - [`HallBooks`]: what a hall has stored, once nobody calls it any more.
 //! - [`passes_gain_what_was_applied`]: a law, which runs no code.
 //!
@@ -25,7 +24,6 @@ mod reach;
 pub use hall::Hall;
 pub use hall_books::HallBooks;
 pub use laws::passes_gain_what_was_applied;
-pub use radio_events::Caller;
 
 /// The error of a call if memory was refused.
 pub type OutOfMemory = std::alloc::AllocError;

@@ -4,7 +4,7 @@ ghost use Rattle.std.specs.Prelude.{◌≡◌, ◌⊎◌, IfOk, IfErr, IfSome, O
 ghost use Rattle.radio_masters.specs.declared.relay_end.RelayEnd.TheVariants.{NoAnswer, NotWished, OutOfMemory as NoMemory};
 ghost use Rattle.radio_relay.specs.Course.{GoesDown, RefusesDown};
 ghost use Rattle.radio_masters.specs.Askers.{AskedSteps};
-ghost use Rattle.radio_serving.specs.Watching.{WatchedSteps, watched_of};
+ghost use Rattle.radio_serving.specs.Watching.{WatchedSteps};
 ghost use Rattle.radio_pullers.specs.Threads.{HasPulled, HasHadTurns, IsLetDown, IsNewPull, IsPullOf};
 ghost use Rattle.radio_pullers.specs.Turns.{MayTurn};
 
@@ -14,7 +14,7 @@ use crate::station::RelayedStation;
 use crate::waits::waits_until;
 use mio::net::TcpStream;
 use radio_board::{NewsFor, Shared};
-use radio_events::{Caller, SharedServer};
+use radio_events::SharedServer;
 use radio_lines::{Network, SocketLine, Sockets, moment, moment_us};
 use radio_masters::{MountPull, RelayEnd, RelayServer};
 use radio_serving::{Server, Take, Watched};
@@ -34,13 +34,13 @@ const WAIT_MS: u64 = 500;
 
 /// A relay's thread.
 #[derive(Drop)]
-struct Puller<'a, R: Clock + Wait, N: Network, S: Server + Drop> {
+struct Puller<'a, R: Clock + Wait, N: Network, S: SharedServer> {
     rt: &'a R,
     net: &'a N,
     shared: &'a Shared,
     relay: &'a RunningRelay,
     sockets: Sockets,
-    asked: RelayServer<Watched<S>>,
+    asked: RelayServer<Watched<'a, R, S>>,
     /// When the pull began, in milliseconds.
     began_ms: u64,
     /// The moment that the log last got, in seconds since 1970.
@@ -84,10 +84,9 @@ fn pull_with<R: Clock + Wait, N: Network, S: SharedServer>(
 ) -> Option<(RelayOutcome, S::Pass)>
     ensures { IfSome result (λ done. HasPulled S.steps S.refuses relay.now.setting pass done.1) }
 {
-    let caller = Caller::new(rt, station.server, pass);
-    let puller = Puller::new(rt, station.net, station.shared, relay, caller).ok()?;
-    let (outcome, caller) = puller.run();
-    Some((outcome, caller.into_pass()))
+    let watched = Watched::new(station.shared.alloc(), rt, station.server, pass);
+    let puller = Puller::new(rt, station.net, station.shared, relay, watched).ok()?;
+    Some(puller.run())
 }
 
 /// Returns how a relay's thread has ended that was refused memory, a pass or a socket before anything was tried.
@@ -107,16 +106,16 @@ fn asked_for<S: Server + Drop>(
     alloc: Global,
     relay: &RunningRelay,
     server: S,
-) -> Result<RelayServer<Watched<S>>, OutOfMemory>
-    ensures server { IfOk result (λ asked. asked.server ≡ watched_of server) }
+) -> Result<RelayServer<S>, OutOfMemory>
+    ensures server { IfOk result (λ asked. asked.server ≡ server) }
     ensures failing { IfOk result (λ asked. asked.course.failing ≡ relay.now.failing) }
 {
-    let mut asked = RelayServer::new(alloc, Watched::new(alloc, server), relay.setting())?;
+    let mut asked = RelayServer::new(alloc, server, relay.setting())?;
     asked.set_failing(relay.failing());
     Ok(asked)
 }
 
-impl<'a, R: Clock + Wait, N: Network, S: Server + Drop> Puller<'a, R, N, S> {
+impl<'a, R: Clock + Wait, N: Network, S: SharedServer> Puller<'a, R, N, S> {
     /// Returns the thread of this relay, which asks this server. The system's fault if it reports nothing of sockets,
     /// or memory was refused.
     fn new(
@@ -124,14 +123,14 @@ impl<'a, R: Clock + Wait, N: Network, S: Server + Drop> Puller<'a, R, N, S> {
         net: &'a N,
         shared: &'a Shared,
         relay: &'a RunningRelay,
-        server: S,
+        watched: Watched<'a, R, S>,
     ) -> io::Result<Puller<'a, R, N, S>>
-        ensures server { IfOk result (λ puller. puller.asked.server ≡ watched_of server) }
+        ensures server { IfOk result (λ puller. puller.asked.server ≡ watched.entry) }
         ensures relay { IfOk result (λ puller. puller.relay.now ≡ relay.now) }
         ensures began { IfOk result (λ puller. puller.began_ms ≡ 0) }
     {
         let alloc = shared.alloc();
-        let asked = asked_for(alloc, relay, server)?;
+        let asked = asked_for(alloc, relay, watched)?;
         let sockets = Sockets::alone(net, alloc)?;
         Ok(Puller {
             rt,
@@ -145,15 +144,14 @@ impl<'a, R: Clock + Wait, N: Network, S: Server + Drop> Puller<'a, R, N, S> {
         })
     }
 
-    /// Pulls until it is to stop, or a pull has not brought it up. Returns how it has ended, and the server, by which all was
-    /// applied.
-    fn run(self) -> (RelayOutcome, S)
+    /// Pulls until it is to stop, or a pull has not brought it up. Returns how it has ended, and the pass, by which all was applied.
+    fn run(self) -> (RelayOutcome, S::Pass)
         ensures { HasPulled S.steps S.refuses self.entry.relay.now.setting self.entry.asked.server.server result.1 }
     {
         let mut puller = self;
         let outcome = puller.work();
         drop(puller.sockets);
-        (outcome, puller.asked.into_server().into_server())
+        (outcome, puller.asked.into_server().into_pass())
     }
 
     /// Pulls again and again, until it is to stop, or a pull has not brought it up. Returns how it has ended.

@@ -1,7 +1,7 @@
 //! Connections, which a worker serves turn by turn.
 //!
 //! - [`Worker`]: [`Worker::admit`] takes a connection in, and [`Worker::serve_turn`] serves all, by a [`Turn`].
-//! - [`Watched`]: a server that a worker asks, and what it found of the replies ([`Found`], of which it may [`Take`] a part).
+//! - [`Watched`]: a server as a worker asks it, with a pass, and what it found of the replies ([`Found`], of which it may [`Take`] a part).
 //! - [`open_sessions_have_not_failed`], [`news_is_found`], [`time_is_given`]: laws, which run no code.
 //! - Lines and connections are those of `radio_connections`, under its names.
 #![tactic(auto)]

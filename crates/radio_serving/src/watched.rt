@@ -1,44 +1,49 @@
-//! A server, and whether what was asked of it may bring something to listeners.
+//! Who asks a server that others ask too, and whether that may bring something to listeners.
 
 use crate::found::{Found, Take};
 use crate::kind::kind_of;
 use crate::sources::Sources;
 use crate::{OutOfMemory, Server};
-use radio_events::{Event, Reply};
+use radio_events::{Event, Reply, SharedServer};
 use radio_values::MountName;
 use std::alloc::Global;
 use std::cell::Cell;
 use std::marker::Model;
+use std::sync::Wait;
 
-/// A server, and whether what was asked of it may bring something to listeners. In contracts it is the server, and who feeds a
-/// mount by what was asked.
+/// A server that others ask too, as one of them asks it with a pass of its own, and whether what was asked may bring something to
+/// listeners. In contracts it is its pass, and who feeds a mount by what was asked.
 #[derive(Drop)]
-pub struct Watched<S: Server + Drop> {
-    server: S,
+pub struct Watched<'a, R: Wait, S: SharedServer> {
+    rt: &'a R,
+    server: &'a S,
+    pass: S::Pass,
     sources: Sources,
     /// What was found since it was asked for last. What it becomes is decided by [`Found::after`].
     found: Cell<Found>,
 }
 
-impl<S: Server + Drop> Model for Watched<S> {
+impl<'a, R: Wait, S: SharedServer> Model for Watched<'a, R, S> {
     ghost use Rattle.radio_serving.specs.Watching.{WatchedOf};
 
-    ghost Value = { WatchedOf S };
+    ghost Value = { WatchedOf S.Pass };
 
-    ghost view = { λ w. record { server = w.server; feeding = w.sources } };
+    ghost view = { λ w. record { server = w.pass; feeding = w.sources } };
 }
 
-impl<S: Server + Drop> Watched<S> {
+impl<'a, R: Wait, S: SharedServer> Watched<'a, R, S> {
     ghost use Rattle.std.specs.Prelude.{◌≡◌, length};
     ghost use Rattle.radio_serving.specs.Sources.{is_source_number};
     ghost use Rattle.radio_serving.specs.Watching.{watched_of};
 
-    /// Returns this server, of which nothing was asked yet. It takes no memory.
-    pub fn new(alloc: Global, server: S) -> Watched<S>
-        ensures { result ≡ watched_of server }
+    /// Returns this server, of which nothing was asked yet with this pass. It takes no memory.
+    pub fn new(alloc: Global, rt: &'a R, server: &'a S, pass: S::Pass) -> Watched<'a, R, S>
+        ensures { result ≡ watched_of pass }
     {
         Watched {
+            rt,
             server,
+            pass,
             sources: Sources::new(alloc),
             found: Cell::new(Found::nothing()),
         }
@@ -66,15 +71,15 @@ impl<S: Server + Drop> Watched<S> {
         self.sources.count()
     }
 
-    /// Returns the server.
-    pub fn into_server(self) -> S
-        ensures { result ≡ self.server }
+    /// Returns the pass, when nothing is asked any more.
+    pub fn into_pass(self) -> S::Pass
+        ensures { result ≡ self.entry.server }
     {
-        self.server
+        self.pass
     }
 }
 
-impl<S: Server + Drop> Server for Watched<S> {
+impl<'a, R: Wait, S: SharedServer> Server for Watched<'a, R, S> {
     ghost use Rattle.std.specs.Prelude.{◌≡◌, IfOk, OnErr};
     ghost use Rattle.radio_events.specs.declared.event.Event.TheVariants.{Draw};
     ghost use Rattle.radio_serving.specs.Watching.{WatchedSteps};
@@ -90,7 +95,7 @@ impl<S: Server + Drop> Server for Watched<S> {
         ensures refused { OnErr result (S.refuses self.old.server event) }
     {
         let kind = kind_of(&event);
-        match self.server.apply(event) {
+        match self.server.apply(self.rt, &mut self.pass, event) {
             Ok(reply) => {
                 let fed = self.sources.note(kind, &reply);
                 self.found.set(self.found.get().after(kind, &reply, fed));
@@ -106,10 +111,10 @@ impl<S: Server + Drop> Server for Watched<S> {
         ensures err { OnErr result (self.new ≡ self.old) }
         ensures refused { OnErr result (S.refuses self.old.server (Draw id room)) }
     {
-        self.server.draw(id, room)
+        self.server.draw(self.rt, &mut self.pass, id, room)
     }
 
     fn last_mount(&self, id: u64) -> Option<MountName> {
-        self.server.last_mount(id)
+        self.server.last_mount(self.rt, id)
     }
 }

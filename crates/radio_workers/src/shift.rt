@@ -14,18 +14,18 @@ ghost use Rattle.radio_workers.specs.Working.{WorkerHasDone, HasWorkedAtSlot, Is
 use crate::leaving::leave_all;
 use crate::listeners::{has_listeners, has_more_to_draw};
 use crate::{Intake, IntakePass, Seen, TurnSource, TurnStart, WorkerSlot, Workplace};
-use radio_events::{Caller, SharedServer};
+use radio_events::SharedServer;
 use radio_serving::{
-    Conn, Found, Gate, Line, Server, Take, Turn, Watched, WebAnswers, Worker,
-    close_first_lingering, count_lingering,
+    Conn, Found, Gate, Line, Take, Turn, Watched, WebAnswers, Worker, close_first_lingering,
+    count_lingering,
 };
 use std::alloc::Global;
 use std::sync::Wait;
 
 /// A worker and its connections.
 #[derive(Drop)]
-struct Shift<S: Server + Drop, L: Line> {
-    worker: Worker<Watched<S>>,
+struct Shift<'a, R: Wait, S: SharedServer, L: Line> {
+    worker: Worker<Watched<'a, R, S>>,
     /// Those of clients that feed a mount, or have.
     sources: Vec<Conn<L>>,
     /// The others.
@@ -45,7 +45,7 @@ pub(crate) fn work<R: Wait, S: SharedServer, T: Drop, L: Line, P: TurnSource<T, 
     ensures worked { IsWorkOf S.steps S.refuses place.now.web slot.old.pass slot.new.pass }
 {
     if let Some(pass) = slot.pass.take() {
-        let pass = work_with(
+        let pass = serve(
             rt,
             alloc,
             place,
@@ -64,8 +64,9 @@ fn put_back<A: Drop>(own: &mut Option<A>, pass: A)
     *own = Some(pass);
 }
 
-/// Works with this pass of the server, by which all is applied, and which comes back.
-fn work_with<R: Wait, S: SharedServer, T: Drop, L: Line, P: TurnSource<T, L>, G: Gate>(
+/// Serves connections with this pass of the server, turn after turn, until all have been made or the turn source says stop; gives the
+/// pass back once all clients have left.
+fn serve<R: Wait, S: SharedServer, T: Drop, L: Line, P: TurnSource<T, L>, G: Gate>(
     rt: &R,
     alloc: Global,
     place: &Workplace<'_, S, T, G>,
@@ -77,32 +78,8 @@ fn work_with<R: Wait, S: SharedServer, T: Drop, L: Line, P: TurnSource<T, L>, G:
     ensures taken { HasTakenMore intake_pass.old intake_pass.new }
     ensures worked { HasWorkedAtSlot S.steps S.refuses place.now.web pass result }
 {
-    let caller = Caller::new(rt, place.server, pass);
-    serve(rt, alloc, place, turn_source, intake_pass, caller).into_pass()
-}
-
-/// Serves connections over this server, turn after turn, until all have been made or the turn source says stop; gives the server
-/// back once all clients have left.
-fn serve<R, A, S, T, L, P, G>(
-    rt: &R,
-    alloc: Global,
-    place: &Workplace<'_, A, T, G>,
-    turn_source: &mut P,
-    intake_pass: &mut IntakePass<T>,
-    server: S,
-) -> S
-where
-    R: Wait,
-    S: Server + Drop,
-    T: Drop,
-    L: Line,
-    P: TurnSource<T, L>,
-    G: Gate,
-    requires own { intake_pass.old.intake ≡ place.now.intake.now }
-    ensures taken { HasTakenMore intake_pass.old intake_pass.new }
-    ensures worked { HasWorkedAtSlot S.steps S.refuses place.now.web server result }
-{
-    let mut shift: Shift<S, L> = Shift::new(alloc, server, place.web, place.patience_s);
+    let watched = Watched::new(alloc, rt, place.server, pass);
+    let mut shift: Shift<'_, R, S, L> = Shift::new(alloc, watched, place.web, place.patience_s);
     if !place.log_polls {
         shift.worker.log().leave_out_polls();
     }
@@ -110,15 +87,19 @@ where
     shift.end()
 }
 
-impl<S: Server + Drop, L: Line> Shift<S, L> {
+impl<'a, R: Wait, S: SharedServer, L: Line> Shift<'a, R, S, L> {
     /// Returns a worker without connections, which applies to this server and has this patience, in seconds.
-    fn new(alloc: Global, server: S, web: WebAnswers, patience_s: u32) -> Shift<S, L>
-        ensures server { result.worker.server ≡ watched_of server }
+    fn new(
+        alloc: Global,
+        watched: Watched<'a, R, S>,
+        web: WebAnswers,
+        patience_s: u32,
+    ) -> Shift<'a, R, S, L>
+        ensures server { result.worker.server ≡ watched.entry }
         ensures web { result.worker.web ≡ web }
         ensures patience { result.worker.patience_ms ≡ patience_s * 1000 }
         ensures nobody { (result.sources.items ≡ []) × (result.conns.items ≡ []) }
     {
-        let watched = Watched::new(alloc, server);
         Shift {
             worker: Worker::new(alloc, watched, web, patience_s),
             sources: Vec::new(alloc),
@@ -128,10 +109,10 @@ impl<S: Server + Drop, L: Line> Shift<S, L> {
 
     /// Turn after turn, as long as the turn source goes on.
     #[tactic(auto, using(crate::proofs::Takings::taken_none, crate::proofs::Takings::taken_one, crate::proofs::Takings::taken_then, crate::proofs::Doings::done_none, crate::proofs::Doings::done_then))]
-    fn make_turns<R: Wait, A, T: Drop, P: TurnSource<T, L>, G: Gate>(
+    fn make_turns<T: Drop, P: TurnSource<T, L>, G: Gate>(
         &mut self,
         rt: &R,
-        place: &Workplace<'_, A, T, G>,
+        place: &Workplace<'_, S, T, G>,
         turn_source: &mut P,
         intake_pass: &mut IntakePass<T>,
     )
@@ -149,10 +130,10 @@ impl<S: Server + Drop, L: Line> Shift<S, L> {
 
     /// The next turn, unless the turn source stops it. Whether it does not.
     #[tactic(auto, using(crate::proofs::Takings::taken_none, crate::proofs::Doings::done_none))]
-    fn goes_on<R: Wait, A, T: Drop, P: TurnSource<T, L>, G: Gate>(
+    fn goes_on<T: Drop, P: TurnSource<T, L>, G: Gate>(
         &mut self,
         rt: &R,
-        place: &Workplace<'_, A, T, G>,
+        place: &Workplace<'_, S, T, G>,
         turn_source: &mut P,
         intake_pass: &mut IntakePass<T>,
     ) -> bool
@@ -171,10 +152,10 @@ impl<S: Server + Drop, L: Line> Shift<S, L> {
     }
 
     /// Does what it is called to: takes in waiting connections, and makes the turn.
-    fn follow<R: Wait, A, T: Drop, P: TurnSource<T, L>, G: Gate>(
+    fn follow<T: Drop, P: TurnSource<T, L>, G: Gate>(
         &mut self,
         rt: &R,
-        place: &Workplace<'_, A, T, G>,
+        place: &Workplace<'_, S, T, G>,
         turn_source: &mut P,
         intake_pass: &mut IntakePass<T>,
         call: TurnStart,
@@ -190,7 +171,7 @@ impl<S: Server + Drop, L: Line> Shift<S, L> {
 
     /// Takes in as many of the waiting connections as it is called to.
     #[tactic(auto, using(crate::proofs::Takings::taken_none, crate::proofs::Takings::taken_one, crate::proofs::Takings::taken_then, crate::proofs::Doings::done_none, crate::proofs::Doings::done_then))]
-    fn take_in<R: Wait, T: Drop, P: TurnSource<T, L>>(
+    fn take_in<T: Drop, P: TurnSource<T, L>>(
         &mut self,
         rt: &R,
         intake: &Intake<T>,
@@ -364,24 +345,27 @@ impl<S: Server + Drop, L: Line> Shift<S, L> {
     }
 
     /// Has all clients leave that have not, and closes their connections: those of sources first, then the others, each in order.
-    fn end(self) -> S
+    fn end(self) -> S::Pass
         ensures { (between last : WatchedOf _)
-            × LeavesAll (WatchedSteps S.steps) (λ watched event. S.refuses watched.server event) self.worker.server self.sources.items between
-            × LeavesAll (WatchedSteps S.steps) (λ watched event. S.refuses watched.server event) between self.conns.items last
+            × LeavesAll (WatchedSteps S.steps) (λ watched event. S.refuses watched.server event) self.entry.worker.server self.entry.sources.items between
+            × LeavesAll (WatchedSteps S.steps) (λ watched event. S.refuses watched.server event) between self.entry.conns.items last
             × (result ≡ last.server) }
     {
-        let mut server = self.worker.into_server();
-        leave_all(&mut server, self.sources.as_slice());
-        leave_all(&mut server, self.conns.as_slice());
+        let mut watched = self.worker.into_server();
+        leave_all(&mut watched, self.sources.as_slice());
+        leave_all(&mut watched, self.conns.as_slice());
         drop(self.sources);
         drop(self.conns);
-        server.into_server()
+        watched.into_pass()
     }
 }
 
 /// Returns the index of the first connection whose client feeds a mount.
-fn first_source<S: Server + Drop, L: Line>(server: &Watched<S>, conns: &[Conn<L>]) -> Option<usize>
-    ensures { result ≡ first_source server.now.feeding conns.now }
+fn first_source<R: Wait, S: SharedServer, L: Line>(
+    watched: &Watched<'_, R, S>,
+    conns: &[Conn<L>],
+) -> Option<usize>
+    ensures { result ≡ first_source watched.now.feeding conns.now }
 {
-    conns.iter().position(|conn| server.feeds(conn.id()))
+    conns.iter().position(|conn| watched.feeds(conn.id()))
 }

@@ -2,8 +2,8 @@ ghost use Rattle.std.specs.Prelude.{◌≡◌};
 ghost use Rattle.radiod.specs.FaultLines.{exit_status};
 
 use radio_floor::PlayFault;
-use radio_listening::ServeFault;
 use radio_startup::FileFault;
+use radio_threads::ServeFault;
 use std::{fmt, io};
 
 /// Why `radiod` ends. Its text is the line on standard error, after `radiod: `.

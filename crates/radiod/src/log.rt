@@ -8,11 +8,11 @@ ghost use Rattle.radiod.specs.FaultLines.{IsBindReason, IsReasonOf, bind_address
 
 use crate::fault::{Fault, NotBound};
 use crate::output::LimitedFile;
-use radio_listening::Listening;
 use radio_log::{Fact, FaultyKey, QuotedText};
 use radio_outlet::{LogQueue, start_log};
 use radio_review::UnknownKey;
 use radio_startup::{Dated, Notices, line_now, log_start, words_of, words_of_unknown};
+use radio_threads::Listening;
 use std::sync::{Arc, Wait};
 use std::thread::Threads;
 use std::time::Clock;

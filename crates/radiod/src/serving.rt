@@ -12,9 +12,6 @@ ghost use Rattle.radiod.specs.declared.fault.NotBound.{NotBound as NotBoundOf};
 use crate::fault::{Fault, NotBound};
 use crate::log::{ProgramLog, say_unknown};
 use radio_book::{Origin, PASSES, Unkept};
-use radio_listening::{
-    BindFault, Listening, OutOfMemory, ServeFault, Service, SystemNet, WebAnswers,
-};
 use radio_locks::Hall;
 use radio_log::Moment;
 use radio_outlet::LogQueue;
@@ -22,6 +19,9 @@ use radio_review::UnknownKey;
 use radio_settings::AnswerSettings;
 use radio_settings_values::Settings;
 use radio_startup::{Station, moment_now, warn};
+use radio_threads::{
+    BindFault, Listening, OutOfMemory, ServeFault, Service, SystemNet, WebAnswers,
+};
 use std::alloc::Global;
 use std::marker::Brand;
 use std::sync::ledger::Blank;

@@ -1,32 +1,46 @@
 //! What a worker has found is found once.
 
-use radio_events::{Event, Reply};
+use radio_events::{Event, Reply, SharedServer};
 use radio_serving::{Found, OutOfMemory, Server, Take, Watched};
 use radio_values::MountName;
 use std::alloc::Global;
+use std::sync::Wait;
 
 /// A server that has noted everything.
 #[derive(Drop)]
-struct Noting;
+struct Noting {
+    alloc: Global,
+}
 
-impl Server for Noting {
+impl SharedServer for Noting {
+    type Pass = ();
+
     ghost steps = { λ from event reply to. Unit {0} };
 
     ghost refuses = { λ from event. Unit {0} };
 
-    fn apply(&mut self, event: Event) -> Result<Reply, OutOfMemory> {
+    fn pass<R: Wait>(&self, _rt: &R) -> Option<()> {
+        Some(())
+    }
+
+    fn apply<R: Wait>(&self, _rt: &R, _pass: &mut (), event: Event) -> Result<Reply, OutOfMemory> {
         drop(event);
         Ok(Reply::Noted)
     }
 
-    fn last_mount(&self, _id: u64) -> Option<MountName> {
+    fn last_mount<R: Wait>(&self, _rt: &R, _id: u64) -> Option<MountName> {
         None
+    }
+
+    fn wanted<R: Wait>(&self, _rt: &R) -> Result<Vec<MountName>, OutOfMemory> {
+        Ok(Vec::new(self.alloc))
     }
 }
 
 /// What is found of the end of a source, when this is taken first; and what is found then.
-fn found_twice(alloc: Global, take: Take) -> Option<(Found, Found)> {
-    let mut watched = Watched::new(alloc, Noting);
+fn found_twice<R: Wait>(rt: &R, alloc: Global, take: Take) -> Option<(Found, Found)> {
+    let noting = Noting { alloc };
+    let mut watched = Watched::new(alloc, rt, &noting, ());
     match watched.apply(Event::SourceEnd { id: 1 }) {
         Ok(reply) => {
             drop(reply);
@@ -38,8 +52,8 @@ fn found_twice(alloc: Global, take: Take) -> Option<(Found, Found)> {
 }
 
 /// Whether there is news the first time, and none the second.
-fn is_found_once(alloc: Global, take: Take) -> bool {
-    match found_twice(alloc, take) {
+fn is_found_once<R: Wait>(rt: &R, alloc: Global, take: Take) -> bool {
+    match found_twice(rt, alloc, take) {
         Some((first, second)) => first.has_news && !second.has_news,
         None => false,
     }
@@ -47,6 +61,6 @@ fn is_found_once(alloc: Global, take: Take) -> bool {
 
 #[test]
 fn what_is_taken_is_gone(rt: HostRuntime) {
-    assert!(rt; is_found_once(rt.alloc(), Take::News));
-    assert!(rt; is_found_once(rt.alloc(), Take::All));
+    assert!(rt; is_found_once(&rt, rt.alloc(), Take::News));
+    assert!(rt; is_found_once(&rt, rt.alloc(), Take::All));
 }

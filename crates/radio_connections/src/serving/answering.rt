@@ -30,7 +30,7 @@ pub(crate) fn answer<S: Server, L: Line>(
 {
     let leaves = is_leave(&event);
     let listens = is_listen(&event);
-    match conn.refusals.apply(server, event) {
+    match server.apply(event) {
         Ok(reply) => {
             conn.account.log_reply(log, notice, ReplyNote::of(&reply));
             let sits = both(listens, is_seated(&reply));
@@ -46,6 +46,7 @@ pub(crate) fn answer<S: Server, L: Line>(
             drop(reply);
         }
         Err(_) => {
+            conn.refusals.count(leaves);
             conn.account.note_refusal(notice);
             conn.status.fate = Fate::Cut;
         }

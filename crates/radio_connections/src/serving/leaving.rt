@@ -50,11 +50,14 @@ fn note_mount<S: Server, L: Line>(server: &S, conn: &Conn<L>) {
 fn asks_to_leave<S: Server>(server: &mut S, refusals: &mut Refusals, id: u64) -> bool
     ensures { HasAskedToLeave S.steps result id server.old refusals.old server.new refusals.new }
 {
-    match refusals.apply(server, Event::Leave { id }) {
+    match server.apply(Event::Leave { id }) {
         Ok(reply) => {
             drop(reply);
             true
         }
-        Err(_) => false,
+        Err(_) => {
+            refusals.count(true);
+            false
+        }
     }
 }

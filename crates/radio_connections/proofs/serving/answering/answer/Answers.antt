@@ -1,6 +1,6 @@
 use Rattle.std.proofs.Common.{◌≡◌, inl, inr, sym, Bool, ◌||◌, ◌&&◌, [], ◌∷◌, refl, ◌∙◌, ap}
 use Rattle.radio_events.specs.Events.{entry}
-use Rattle.radio_connections.specs.Connections.{Connection}
+use Rattle.radio_connections.specs.Connections.{Connection, one_refusal, refused_one}
 use Rattle.radio_connections.specs.declared.conn.ConnStatus.{ConnStatus}
 use Rattle.radio_connections.specs.declared.conn.Fate.TheVariants.{Open}
 use Rattle.radio_connections.specs.Course.{is_listen, is_seated}
@@ -21,7 +21,7 @@ returns-in-Ok g c =
     let over = c.pass_over_if.ensures in
     let left = ap (λ (s : ConnStatus). s.has_left) c.note.ensures ∙ ap (λ (b : Bool). b || before.has_left) c.is_leave-leaves.ensures in (
       made ∷ [],
-      chain_one g.S.Server.steps c.args.server.now c.apply.new.server made c.in-Ok.ensures.ok,
+      chain_one g.S.Server.steps c.args.server.now c.apply.new.self made c.in-Ok.ensures.ok,
       answered_as_one c.conn.view_is (record {
         same = refl;
         once = inr (c.in-Ok.reply, refl);
@@ -30,7 +30,7 @@ returns-in-Ok g c =
         stands =
             λ arrival later past st. answered_as _ _ c.args.event later past c.in-Ok.reply goes refl over.given over.taken sits left st c.append-conn-inside.result refl
             c.append-conn-inside.ensures.appended;
-        later = later_same over.calls over.taken c.in-Ok.ensures.none;
+        later = later_same over.calls over.taken refl;
         spared = record {
           calls = over.calls;
           given = over.given;
@@ -48,16 +48,19 @@ returns-in-Ok g c =
     )
 
 pub returns-in-Err : goal.returns-in-Err
-returns-in-Err g c = (
-  [],
-  c.in-Err.ensures.err,
-  answered_as_one c.conn.view_is
-      (answered_by_cut _ _ c.args.event (record { id = refl; sits = refl; left = refl }) (later_by_refusal c.args.event refl refl c.in-Err.ensures.one)
-      (record {
-        calls = refl;
-        given = refl;
-        unwritten = record { taken = refl; moved = refl; has_taken = refl; finished = refl };
-        closed = λ e. closed_not_cut (sym e);
-        cut = λ e. inr (more_refused c.args.event _ _ c.in-Err.ensures.one);
-      }) refl refl refl),
-)
+returns-in-Err g c =
+    let before = c.conn.inside.refusals in
+    let one : c.count.new.self ≡ one_refusal c.args.event before =
+    c.count.ensures ∙ ap (λ (leaves : Bool). refused_one leaves before) c.is_leave-leaves.ensures in (
+      [],
+      c.in-Err.ensures.err,
+      answered_as_one c.conn.view_is
+          (answered_by_cut _ _ c.args.event (record { id = refl; sits = refl; left = refl }) (later_by_refusal c.args.event refl refl one)
+          (record {
+            calls = refl;
+            given = refl;
+            unwritten = record { taken = refl; moved = refl; has_taken = refl; finished = refl };
+            closed = λ e. closed_not_cut (sym e);
+            cut = λ e. inr (more_refused c.args.event _ _ one);
+          }) refl refl refl),
+    )

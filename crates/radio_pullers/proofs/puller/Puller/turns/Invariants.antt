@@ -6,5 +6,5 @@ abbrev pub invariant-turns : goal.invariant-turns
 invariant-turns g l = record {
   began : l.self.began_ms ≡ l.initial.self.began_ms;
   relay : l.self.relay.now ≡ l.initial.self.relay.now;
-  turned : HasGoneOn g.S.Server.steps l.initial.pull l.initial.self.asked.server.server l.pull l.self.asked.server.server;
+  turned : HasGoneOn g.S.SharedServer.steps l.initial.pull l.initial.self.asked.server.server l.pull l.self.asked.server.server;
 }

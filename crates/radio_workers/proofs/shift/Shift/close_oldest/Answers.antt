@@ -9,6 +9,6 @@ pub oldest-preserved : goal.oldest-preserved
 oldest-preserved g c =
     let before = c.oldest.self in
     let after = c.close_first_lingering.new.self in
-    done_then g.S.Server.steps g.S.Server.refuses _ _ _ c.oldest.invariant
-    (done_close g.S.Server.steps g.S.Server.refuses before.worker after.worker before.sources.items before.conns.items after.sources.items after.conns.items
+    done_then g.S.SharedServer.steps g.S.SharedServer.refuses _ _ _ c.oldest.invariant
+    (done_close g.S.SharedServer.steps g.S.SharedServer.refuses before.worker after.worker before.sources.items before.conns.items after.sources.items after.conns.items
     c.close_first_lingering.ensures.worker c.close_first_lingering.ensures.oldest)

@@ -5,5 +5,5 @@ use Rattle.radio_workers.proofs.shift.Shift.make_turns.Given as goal
 abbrev pub invariant-turns : goal.invariant-turns
 invariant-turns g l =
     HasTakenMore l.initial.intake_pass l.intake_pass
-    × WorkerHasDone g.S.Server.steps g.S.Server.refuses (shift_of l.initial.self.worker l.initial.self.sources.items l.initial.self.conns.items)
+    × WorkerHasDone g.S.SharedServer.steps g.S.SharedServer.refuses (shift_of l.initial.self.worker l.initial.self.sources.items l.initial.self.conns.items)
     (shift_of l.self.worker l.self.sources.items l.self.conns.items)

@@ -18,8 +18,8 @@ started-preserved g c =
       parted_count c.part_source.result before.worker.server.feeding before.sources.items before.conns.items after.sources.items after.conns.items parted
           ∙ c.started.invariant.0,
       c.part_source.ensures.worker ∙ c.started.invariant.1,
-      done_then g.S.Server.steps g.S.Server.refuses _ _ _ c.started.invariant.2
-          (done_part g.S.Server.steps g.S.Server.refuses c.part_source.result before.worker after.worker before.sources.items before.conns.items
+      done_then g.S.SharedServer.steps g.S.SharedServer.refuses _ _ _ c.started.invariant.2
+          (done_part g.S.SharedServer.steps g.S.SharedServer.refuses c.part_source.result before.worker after.worker before.sources.items before.conns.items
           after.sources.items after.conns.items c.part_source.ensures.worker parted),
     )
 
@@ -27,6 +27,6 @@ pub returns-then-not-part_source-clause-does : goal.returns-then-not-part_source
 returns-then-not-part_source-clause-does g c =
     let before = c.started.self in
     let after = c.part_source.new.self in
-    done_then g.S.Server.steps g.S.Server.refuses _ _ _ c.started.invariant.2
-    (done_part g.S.Server.steps g.S.Server.refuses c.part_source.result before.worker after.worker before.sources.items before.conns.items
+    done_then g.S.SharedServer.steps g.S.SharedServer.refuses _ _ _ c.started.invariant.2
+    (done_part g.S.SharedServer.steps g.S.SharedServer.refuses c.part_source.result before.worker after.worker before.sources.items before.conns.items
     after.sources.items after.conns.items c.part_source.ensures.worker c.part_source.ensures.parted)
